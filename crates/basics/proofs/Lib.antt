@@ -1,0 +1,5 @@
+pub mod Build
+pub mod Parts
+pub mod Test
+pub mod Walk
+pub mod Xor

@@ -1,0 +1,5 @@
+pub mod Bits
+pub mod Build
+pub mod Lists
+pub mod Sums
+pub mod Walk

@@ -1,0 +1,58 @@
+-- The cut into blocks, and the order in which their codewords are sent.
+-- Assumes nothing.
+use mathlib.Core.Bool.{cond}
+use mathlib.Core.List.{List, [], _++_, map}
+use Prim.Native.Nat.{ℕ, _+_, _-_, _*_}
+use lib.Dec.{ltb}
+use lib.ListN.{getD, take, drop}
+use Rattle.basics.specs.Lists.{upTo, keep, joined}
+use Rattle.tables.specs.Tables.{blockCount, checkCount, dataCount, shortLength, shortBlocks, blockData, blockStart, blockLength}
+use Rattle.code.specs.Code.{checks}
+
+-- "data fills the blocks in order": block b, and its checks after it
+unfoldable pub block : (v level : ℕ) (codewords : List ℕ) (b : ℕ) → List ℕ
+block v level codewords b =
+    let held = take (blockData v level b) (drop (blockStart v level b) codewords) in held ++ checks (checkCount v level) held
+
+-- a codeword's block, and its place in the block
+pub record Cell : Type 0 where
+  pub of : ℕ
+  pub at : ℕ
+
+-- "first data codeword of each block in block order, then the second, and so on, skipping blocks that have run out"
+unfoldable pub sentData : (v level : ℕ) → List Cell
+sentData v level =
+    joined (map (λ p. map (λ b. record { of = b; at = p }) (keep (λ b. ltb p (blockData v level b)) (upTo (blockCount v level))))
+    (upTo (shortLength v level + 1)))
+
+-- "then the checks the same way"
+unfoldable pub sentChecks : (v level : ℕ) → List Cell
+sentChecks v level =
+    joined (map (λ p. map (λ b. record { of = b; at = blockData v level b + p }) (upTo (blockCount v level))) (upTo (checkCount v level)))
+
+unfoldable pub sentOrder : (v level : ℕ) → List Cell
+sentOrder v level = sentData v level ++ sentChecks v level
+
+-- the codewords of all blocks as they are sent
+unfoldable pub inOrder : (v level : ℕ) → (blocks : List (List ℕ)) → List ℕ
+inOrder v level blocks = map (λ c. getD (getD blocks (c .of) []) (c .at) 0) (sentOrder v level)
+
+unfoldable pub sent : (v level : ℕ) (codewords : List ℕ) → List ℕ
+sent v level codewords = inOrder v level (map (block v level codewords) (upTo (blockCount v level)))
+
+-- the place in the sent order of codeword p of block b, in closed form
+unfoldable pub sentPlace : (v level b p : ℕ) → ℕ
+sentPlace v level b p =
+    let B = blockCount v level in
+    let row = cond (ltb p (shortLength v level)) (p * B + b) (p * B + (b - shortBlocks v level)) in
+    cond (ltb p (blockData v level b)) row (dataCount v level + (p - blockData v level b) * B + b)
+
+-- ---- and back: what was received, by its place in the sent order, cut into blocks again
+
+-- block b of what stands at each place of the sent order
+unfoldable pub gathered : (v level : ℕ) (at : ℕ → ℕ) (b : ℕ) → List ℕ
+gathered v level at b = map (λ p. at (sentPlace v level b p)) (upTo (blockLength v level b))
+
+-- the data codewords of all blocks, in block order
+unfoldable pub dataOf : (v level : ℕ) → (block : ℕ → List ℕ) → List ℕ
+dataOf v level block = joined (map (λ b. take (blockData v level b) (block b)) (upTo (blockCount v level)))

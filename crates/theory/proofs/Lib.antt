@@ -1,0 +1,12 @@
+pub mod Algebra
+pub mod Complete
+pub mod Distance
+pub mod Erase
+pub mod Field
+pub mod Gf
+pub mod Locator
+pub mod Massey
+pub mod Places
+pub mod Root
+pub mod Run
+pub mod Sum
