@@ -1,0 +1,91 @@
+-- What holds of writer and reader together, each demand as a statement with a name.
+-- Assumes nothing.
+use mathlib.Core.Path.{_≡_}
+use mathlib.Core.List.{List, List·Memᴰ}
+use Prim.Native.Nat.{ℕ, _+_, _*_, _≤_, _<_}
+use lib.ListN.{length, getD, take}
+use Rattle.basics.specs.Lists.{AtMost}
+use Rattle.basics.specs.Sums.{sum}
+use Rattle.tables.specs.Tables
+use Rattle.code.specs.Code.{differing, unreadable}
+use Rattle.words.specs.Words.{Near}
+use Rattle.stream.specs.Stream.{LawfulMessage}
+use Rattle.modules.specs.Modules.{order, formatPlaces, versionPlaces}
+use Rattle.scan.specs.Received.{copied, readable, received}
+use Rattle.writer.specs.Writer.{Request, Drawn, draw}
+use Rattle.reader.specs.Reader.{Answer, Read, Reads, blockWord, blockFlags}
+
+-- a payload of bytes, as the caller's types have it
+abbrev pub Bytes : Request → Type 0
+Bytes r = AtMost 255 (r .payload)
+
+-- buffers that the reader does not refuse
+pub record LargeEnough (payloadRoom listRoom : ℕ) : Type 0 where
+  pub payload : Tables.mostPayload ≤ payloadRoom
+  pub list : Tables.mostList ≤ listRoom
+
+-- ---- demand 2
+
+-- "The reader gives back the same payload and segments from that symbol": with version, level and mask, and both sums 0
+abbrev pub ReadBack : Type 0
+ReadBack = (r : Request) (out v mask payloadRoom listRoom : ℕ) (modules : List ℕ) → Bytes r → LargeEnough payloadRoom listRoom
+    → draw r out ≡ Drawn v mask modules → Reads modules payloadRoom listRoom (Read v (r .level) mask (r .payload) (r .list) 0 0)
+
+-- ---- demand 3
+
+-- the readable codewords of block b that differ from what was drawn, and the unreadable ones
+abbrev pub wrong : (v level mask : ℕ) (modules m : List ℕ) (b : ℕ) → ℕ
+wrong v level mask modules m b =
+    differing (blockWord v level (received v mask m) b) (blockFlags v level (received v mask m) b) (blockWord v level (received v mask modules) b)
+
+abbrev pub lost : (v level mask : ℕ) (m : List ℕ) (b : ℕ) → ℕ
+lost v level mask m b = unreadable (blockFlags v level (received v mask m) b)
+
+-- a copy of a word of k bits, at these places, is within its bound of what was drawn
+abbrev pub CopyKept : (k : ℕ) (places modules m : List ℕ) → Type 0
+CopyKept k places modules m = Near k (copied m places) (readable m places) (copied modules places)
+
+-- "any damage that leaves modules light, dark or unreadable and keeps every block, and every format and version copy, within its bound of what was drawn"
+pub record Damaged (v level mask : ℕ) (modules m : List ℕ) : Type 0 where
+  pub long : length m ≡ length modules
+  pub values : AtMost 2 m
+  pub formats : (copy : ℕ) → copy < 2 → CopyKept 15 (formatPlaces v copy) modules m
+  pub versions : (copy : ℕ) → copy < 2 → 7 ≤ v → CopyKept 18 (versionPlaces v copy) modules m
+  pub blocks : (b : ℕ) → b < Tables.blockCount v level → 2 * wrong v level mask modules m b + lost v level mask m b ≤ Tables.room v level
+
+-- "given large enough buffers, a drawn symbol still gives its version, level, mask, payload and segments after" it; the sums are the counts
+abbrev pub Survives : Type 0
+Survives = (r : Request) (out v mask payloadRoom listRoom : ℕ) (modules m : List ℕ) → Bytes r → LargeEnough payloadRoom listRoom
+    → draw r out ≡ Drawn v mask modules → Damaged v (r .level) mask modules m
+    → Reads m payloadRoom listRoom
+    (Read v (r .level) mask (r .payload) (r .list) (sum (Tables.blockCount v (r .level)) (wrong v (r .level) mask modules m))
+    (sum (Tables.blockCount v (r .level)) (lost v (r .level) mask m)))
+
+-- ---- "two matrices of one side that agree on data, format and version modules, the surplus left out, get the same answer"
+
+-- the two agree on each place of the list
+abbrev pub Agree : (a b places : List ℕ) → Type 0
+Agree a b places = (p : ℕ) → List·Memᴰ p places → getD a p 0 ≡ getD b p 0
+
+pub record SameWhere (v : ℕ) (a b : List ℕ) : Type 0 where
+  pub data-modules : Agree a b (take (8 * Tables.total v) (order v))
+  pub format-modules : (copy : ℕ) → copy < 2 → Agree a b (formatPlaces v copy)
+  pub version-modules : (copy : ℕ) → copy < 2 → Agree a b (versionPlaces v copy)
+
+abbrev pub SameModules : Type 0
+SameModules = (v : ℕ) (a b : List ℕ) (payloadRoom listRoom : ℕ) (x : Answer)
+    → length a ≡ Tables.side v * Tables.side v → length b ≡ Tables.side v * Tables.side v → AtMost 2 a → AtMost 2 b
+    → SameWhere v a b → Reads a payloadRoom listRoom x → Reads b payloadRoom listRoom x
+
+-- ---- what is read is a lawful message that fits the caller's buffers
+
+pub record LawfulReading (payloadRoom listRoom v level mask : ℕ) (payload list : List ℕ) : Type 0 where
+  pub lawful : Tables.Lawful v level
+  pub masks : mask < 8
+  pub message : LawfulMessage v level payload list
+  pub payload-room : length payload ≤ payloadRoom
+  pub list-room : length list ≤ listRoom
+
+abbrev pub ReadsLawful : Type 0
+ReadsLawful = (m : List ℕ) (payloadRoom listRoom v level mask t e : ℕ) (payload list : List ℕ)
+    → Reads m payloadRoom listRoom (Read v level mask payload list t e) → LawfulReading payloadRoom listRoom v level mask payload list

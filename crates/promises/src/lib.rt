@@ -1,0 +1,1 @@
+// What holds of writer and reader together. No code.
