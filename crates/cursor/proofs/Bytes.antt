@@ -3,9 +3,12 @@
 use mathlib.Core.Path.{_≡_}
 use mathlib.Core.Bool.{Bool}
 use Prim.Native.Nat.{ℕ, _+_, _-_, _*_, _/_, _%_, _^_, _<_, _≤_}
-use lib.Dec.{T, leb, ltb, eqb, eqb→eq, leb→le, ltb→lt}
+use lib.Dec.{T, leb, ltb, leb→le, ltb→lt}
 use Rattle.basics.proofs.Test.{all, at, grid, cube}
-use Rattle.cursor.specs.Bits.{bitOf, pickℕ}
+use lib.ListN.{set}
+use Rattle.basics.specs.Bits.{bits}
+use Rattle.basics.specs.Lists.{same}
+use Rattle.cursor.proofs.Bits.{same-lists}
 
 -- the power of a bit's place, as the code's shift has it
 abbrev pub power : ℕ → ℕ
@@ -18,7 +21,11 @@ abbrev pub new : ℕ → ℕ → ℕ → ℕ
 new x i b = x - old x i * power i + b * power i
 
 right : ℕ → ℕ → ℕ → Bool
-right x i b = all 8 (λ k. eqb (bitOf (new x i b) k) (pickℕ (eqb k i) b (bitOf x k)))
+right x i b = same (bits 8 (new x i b)) (set (bits 8 x) i b)
+
+tested : T (all 256 (λ x. all 8 (λ i. all 2 (right x i))))
+unfolding right bits same
+tested = tt
 
 module _ (x i b : ℕ) (hx : x < 256) (hi : i < 8) (hb : b < 2) where
   pub some : 0 < power i
@@ -33,6 +40,6 @@ module _ (x i b : ℕ) (hx : x < 256) (hi : i < 8) (hb : b < 2) where
   pub small : new x i b < 256
   small = ltb→lt _ _ (cube 256 8 2 (λ x i b. ltb (new x i b) 256) tt x i b hx hi hb)
 
-  pub bits : (k : ℕ) → k < 8 → bitOf (new x i b) k ≡ pickℕ (eqb k i) b (bitOf x k)
-  unfolding right bitOf
-  bits k h = eqb→eq _ _ (at 8 (λ k. eqb (bitOf (new x i b) k) (pickℕ (eqb k i) b (bitOf x k))) (cube 256 8 2 right tt x i b hx hi hb) k h)
+  pub stored : bits 8 (new x i b) ≡ set (bits 8 x) i b
+  unfolding right
+  stored = same-lists _ _ (cube 256 8 2 right tested x i b hx hi hb)

@@ -1,76 +1,76 @@
--- A field of n bits is below 2 ^ n, and what one written bit does to all bits.
+-- Bytes with a field put in: what their bits are, how many they are, and that they are bytes.
 -- Assumes nothing.
 use mathlib.Core.Path.{_≡_, refl, sym, ap, _∙_}
-use mathlib.Core.Logic.{_⊎_, inl, inr, ⊎-elim}
-use mathlib.Core.Bool.{Bool, true, false}
-use mathlib.Core.List.{List}
-use Prim.Native.Nat.{ℕ, zero, suc, _+_, _-_, _*_, _/_, _%_, _^_, _<_, _≤_}
-use native.Mathlib.Nat.{mod-lt, pow-suc}
-use native.Mathlib.Omega.{arith}
-use lib.Dec.{eqb, leb, ltb}
+use mathlib.Core.List.{List, _++_, append-assoc}
+use mathlib.Core.Logic.{⊎-elim}
+use Prim.Native.Nat.{ℕ, _+_, _-_, _*_, _/_, _%_, _^_, _<_, _≤_}
+use native.Mathlib.Nat.{lt-of-lt-of-le}
 use lib.Pow.{pow-mono}
-use lib.ListN.{length, getD, set}
-use lib.Seq.{getD-set-same, getD-set-other}
-use borrow.Author.Tests.{eq-eqb, ne-eqb, eqb-true, eqb-false, ltb-true, ltb-false, le-leb, lt-leb, lt-ltb, le-ltb}
-use Rattle.cursor.specs.Bits.{bitOf, bitAt, fieldOf, putAt, pickℕ}
+use native.Mathlib.Numerals.{add-one}
+use native.Mathlib.Omega.{arith}
+use lib.ListN.{length, getD, set, List·getD-eq-default, take, drop, length-append, length-drop}
+use lib.Seq.{length-take-le, take-all, paste, paste-suc}
+use Rattle.basics.specs.Bits.{bitOf, bits, byteBits, number, numberAfter}
+use Rattle.basics.specs.Lists.{AtMost}
+use Rattle.basics.proofs.Bits.{length-bits, length-byteBits, length-bytes, bits-le, byteBits-le, getD-bits, byteBits-injective}
+use Rattle.basics.proofs.Lists.{at-most-append}
+use Rattle.cursor.specs.Cursor.{field, withField}
+use Rattle.cursor.proofs.Bits.{order, at-most-take, at-most-drop, byteBits-bytes, bytes-small, number-more, number-small, set-byteBits}
 
-pub bit-small : (s : List ℕ) (p : ℕ) → bitAt s p < 2
-unfolding bitAt bitOf
-bit-small s p = omega arith
+module _ (s : List ℕ) (at n x : ℕ) where
+  field-bits-le : AtMost 1 (take at (byteBits s) ++ (bits n x ++ drop (at + n) (byteBits s)))
+  field-bits-le =
+      at-most-append 1 (take at (byteBits s)) (bits n x ++ drop (at + n) (byteBits s)) (at-most-take 1 at (byteBits s) (byteBits-le s))
+      (at-most-append 1 (bits n x) (drop (at + n) (byteBits s)) (bits-le n x) (at-most-drop 1 (at + n) (byteBits s) (byteBits-le s)))
 
-pub field-small : (s : List ℕ) (p n : ℕ) → fieldOf s p n < 2 ^ n
-unfolding fieldOf
-field-small s p zero = omega arith
-field-small s p (suc n) = rw pow-suc (omega (arith, field-small s p n, bit-small s (p + n)))
+  pub with-field-bits : at + n ≤ 8 * length s → byteBits (withField s at n x) ≡ take at (byteBits s) ++ (bits n x ++ drop (at + n) (byteBits s))
+  unfolding withField
+  with-field-bits h =
+      byteBits-bytes (length s) _
+      (simp (length-append, length-bits, length-drop, length-byteBits, length-take-le at (byteBits s) (rw length-byteBits (omega arith))) (omega arith))
+      field-bits-le
 
-pub field-16 : (s : List ℕ) (p n : ℕ) → n ≤ 16 → fieldOf s p n < 65536
-field-16 s p n h = omega (arith, field-small s p n, pow-mono {i = n} {j = 16} h)
+  pub with-field-length : length (withField s at n x) ≡ length s
+  unfolding withField
+  with-field-length = length-bytes (length s) _
 
--- a test, as a choice
-decide : (t : Bool) → (t ≡ true) ⊎ (t ≡ false)
-decide true = inl refl
-decide false = inr refl
+  pub with-field-bytes : AtMost 255 (withField s at n x)
+  unfolding withField
+  with-field-bytes = bytes-small (length s) _ field-bits-le
 
-order : (a b : ℕ) → (a < b) ⊎ (b ≤ a)
-order a b = ⊎-elim (λ e. inl (ltb-true a b e)) (λ e. inr (ltb-false a b e)) (decide (ltb a b))
+module _ (s : List ℕ) (at : ℕ) where
+  pub field-none : 0 ≡ field s at 0
+  unfolding field number numberAfter
+  field-none = refl
 
-equal : (a b : ℕ) → (a ≡ b) ⊎ (a ≡ b → ⊥)
-equal a b = ⊎-elim (λ e. inl (eqb-true a b e)) (λ e. inr (eqb-false a b e)) (decide (eqb a b))
+  pub field-more : (k : ℕ) → at + k < 8 * length s → field s at (k + 1) ≡ field s at k * 2 + getD (byteBits s) (at + k) 0
+  unfolding field
+  field-more k h = number-more (byteBits s) at k (rw length-byteBits h)
 
--- a byte stored that differs from the old one in the bit of place p: of all bits, that one is changed
-pub set-one : (out : List ℕ) (p y b : ℕ) → p / 8 < length out
-    → ((k : ℕ) → k < 8 → bitOf y k ≡ pickℕ (eqb k (p % 8)) b (bitOf (getD out (p / 8) 0) k))
-    → (q : ℕ) → bitAt (set out (p / 8) y) q ≡ pickℕ (eqb q p) b (bitAt out q)
-unfolding bitAt
-set-one out p y b h right q =
-    ⊎-elim
-    (λ e. rw (e, getD-set-same out (p / 8) y 0 h, right (q % 8) (omega arith))
-    (⊎-elim (λ r. rw (eq-eqb (q % 8) (p % 8) r, eq-eqb q p (omega arith)))
-    (λ r. rw (ne-eqb (q % 8) (p % 8) r, ne-eqb q p (λ z. r (ap (λ (n : ℕ). n % 8) z))))
-    (equal (q % 8) (p % 8))))
-    (λ e. rw (getD-set-other out (p / 8) (q / 8) y 0 e, ne-eqb q p (λ z. e (ap (λ (n : ℕ). n / 8) z))))
-    (equal (q / 8) (p / 8))
+  pub field-16 : (k : ℕ) → k ≤ 16 → field s at k < 65536
+  unfolding field
+  field-16 k h = lt-of-lt-of-le (number-small k (drop at (byteBits s)) (at-most-drop 1 at (byteBits s) (byteBits-le s))) (pow-mono {j = 16} h)
 
-place : (at n k q : ℕ) → q ≡ at + k → at + n - 1 - q ≡ n - 1 - k
-place at n k q e = omega arith
+-- a bit is at most 1, also past the end
+pub bit-le : (s : List ℕ) (p : ℕ) → getD (byteBits s) p 0 ≤ 1
+bit-le s p = ⊎-elim (λ h. byteBits-le s p h) (λ h. rw (List·getD-eq-default (byteBits s) 0 {n = p} h) (omega arith)) (order p (length (byteBits s)))
 
--- one more bit of the value
-pub put-more : (s : List ℕ) (at v n k q : ℕ) → k < n
-    → pickℕ (eqb q (at + k)) (v / 2 ^ (n - 1 - k) % 2) (putAt s at v n k q) ≡ putAt s at v n (k + 1) q
-unfolding putAt
-put-more s at v n k q h =
-    ⊎-elim
-    (λ e. rw (eq-eqb q (at + k) e, le-leb at q (omega arith), lt-ltb q (at + (k + 1)) (omega arith), place at n k q e))
-    (λ e. rw (ne-eqb q (at + k) e)
-    (⊎-elim (λ l. rw (lt-leb at q l))
-    (λ l. rw (le-leb at q l)
-    (⊎-elim (λ m. rw (lt-ltb q (at + k) m, lt-ltb q (at + (k + 1)) (omega arith)))
-    (λ m. rw (le-ltb q (at + k) m, le-ltb q (at + (k + 1)) (omega arith)))
-    (order q (at + k))))
-    (order q at)))
-    (equal q (at + k))
+-- so many bits written: the bits are those of the bytes with the field put in
+pub put-all : (s t : List ℕ) (at n x : ℕ) → at + n ≤ 8 * length s → length t ≡ length s → AtMost 255 t
+    → byteBits t ≡ paste (byteBits s) at (bits n x) n → t ≡ withField s at n x
+put-all s t at n x h l small e =
+    byteBits-injective t (withField s at n x) small (with-field-bytes s at n x) (l ∙ sym (with-field-length s at n x))
+    (e ∙ rw (take-all n (bits n x) (rw length-bits (omega arith)), append-assoc) (sym (with-field-bits s at n x h)))
 
-pub put-none : (s : List ℕ) (at v n q : ℕ) → bitAt s q ≡ putAt s at v n 0 q
-unfolding putAt
-put-none s at v n q =
-    ⊎-elim (λ l. rw (lt-leb at q l)) (λ l. rw (le-leb at q l, le-ltb q (at + 0) (omega arith))) (order q at)
+pub put-more : (s t : List ℕ) (at n x k y b : ℕ) → k < n → at + n ≤ 8 * length s → length t ≡ length s
+    → byteBits t ≡ paste (byteBits s) at (bits n x) k
+    → b ≡ x / 2 ^ (n - 1 - k) % 2
+    → bits 8 y ≡ set (bits 8 (getD t ((at + k) / 8) 0)) ((at + k) % 8) b
+    → byteBits (set t ((at + k) / 8) y) ≡ paste (byteBits s) at (bits n x) (k + 1)
+put-more s t at n x k y b h m l e w stored =
+    set-byteBits t ((at + k) / 8) ((at + k) % 8) y b (omega arith) (omega arith) stored
+    ∙ rw (e, whole (at + k), w ∙ sym (getD-bits n x k h ∙ ap (bitOf x) (omega arith)), add-one)
+    (paste-suc (byteBits s) at (bits n x) k 0 (rw length-byteBits (omega arith)) (rw length-bits h))
+  where
+    whole : (p : ℕ) → 8 * (p / 8) + p % 8 ≡ p
+    whole p = omega arith

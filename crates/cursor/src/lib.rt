@@ -1,9 +1,9 @@
 // A bit cursor by value: its methods take `self` and return the moved cursor. Bits go most significant first.
 ghost use mathlib.Core.Path.{_≡_};
-ghost use Prim.Native.Nat.{ℕ, _+_, _*_, _<_, _≤_};
-ghost use lib.Dec.{eqb};
-ghost use lib.ListN.{length};
-ghost use Rattle.cursor.specs.Bits.{bitOf, bitAt, fieldOf, putAt, pickℕ};
+ghost use Prim.Native.Nat.{_+_, _*_, _<_, _≤_};
+ghost use lib.ListN.{length, getD, set};
+ghost use Rattle.basics.specs.Bits.{bits, byteBits};
+ghost use Rattle.cursor.specs.Cursor.{field, withField};
 
 pub struct Cursor {
     pub at: usize,
@@ -17,7 +17,7 @@ pub struct Taken {
 // The bit at a place, counted from the first byte's highest bit.
 pub fn bit(bytes: &[u8], p: usize) -> u32
     requires { ⌜ p < 8 * length (now bytes) ⌝ }
-    ensures { λ r. ⌜ r ≡ bitAt (now (bytes .entry)) p ⌝ }
+    ensures { λ r. ⌜ r ≡ getD (byteBits (now (bytes .entry))) p 0 ⌝ }
 {
     let x = bytes[p / 8];
     let s = 7 - p % 8;
@@ -30,10 +30,10 @@ fn wide(x: u8) -> u32
     x as u32
 }
 
-// A byte with one of its bits set to b. Bit 0 is the highest. (What it needs and what it ensures is one computed test over all bytes.)
+// A byte with one of its bits set to b. Bit 0 is the highest.
 fn set_bit(x: u8, i: usize, b: u8) -> u8
     requires { ⌜ (i < 8) × (b < 2) ⌝ }
-    ensures { λ r. ⌜ ((k : ℕ) → k < 8 → bitOf r k ≡ pickℕ (eqb k i) b (bitOf x k)) ⌝ }
+    ensures { λ r. ⌜ bits 8 r ≡ set (bits 8 x) i b ⌝ }
 {
     let p: u8 = 1 << (7 - i);
     let old = x / p % 2;
@@ -43,8 +43,8 @@ fn set_bit(x: u8, i: usize, b: u8) -> u8
 impl Cursor {
     // The next n bits as a number, and the cursor past them.
     pub fn take(self, bytes: &[u8], n: usize) -> Taken
-        requires { ⌜ (n ≤ 16) × ((length (now bytes) ≤ 346) × (self .at + n ≤ 8 * length (now bytes))) ⌝ }
-        ensures { λ r. ⌜ (r .value ≡ fieldOf (now (bytes .entry)) (self .at) n) × (r .next .at ≡ self .at + n) ⌝ }
+        requires { ⌜ (n ≤ 16) × ((length (now bytes) ≤ 4096) × (self .at + n ≤ 8 * length (now bytes))) ⌝ }
+        ensures { λ r. ⌜ (r .value ≡ field (now (bytes .entry)) (self .at) n) × (r .next .at ≡ self .at + n) ⌝ }
     {
         let at = self.at;
         let mut v = 0;
@@ -61,8 +61,8 @@ impl Cursor {
 
     // The n bits of a value, written; every other bit as it was.
     pub fn put(self, out: &mut [u8], value: u32, n: usize) -> Cursor
-        requires { ⌜ (n ≤ 16) × ((length (now out) ≤ 346) × (self .at + n ≤ 8 * length (now out))) ⌝ }
-        ensures { λ r. ⌜ (r .at ≡ self .at + n) × ((q : ℕ) → bitAt (now (out .exit)) q ≡ putAt (now (out .entry)) (self .at) value n n q) ⌝ }
+        requires { ⌜ (n ≤ 16) × ((length (now out) ≤ 4096) × (self .at + n ≤ 8 * length (now out))) ⌝ }
+        ensures { λ r. ⌜ (r .at ≡ self .at + n) × (now (out .exit) ≡ withField (now (out .entry)) (self .at) n value) ⌝ }
     {
         let at = self.at;
         let mut k = 0;

@@ -1,7 +1,11 @@
--- `bits::bit` meets its contract.
+-- `cursor::bit` meets its contract.
 -- Assumes nothing.
-use mathlib.Core.Path.{_≡_}
-use Rattle.cursor.specs.Bits.{bitOf, bitAt}
+use mathlib.Core.Path.{_≡_, sym, ap, _∙_}
+use native.Mathlib.Omega.{arith}
+use lib.ListN.{getD}
+use Prim.Native.Nat.{ℕ, _+_, _*_, _/_, _%_}
+use Rattle.basics.specs.Bits.{byteBits}
+use Rattle.basics.proofs.Bits.{getD-byteBits}
 use borrow.Author.Needs.{needs}
 use Rattle.cursor.proofs.bit.Statement.{statement}
 use Rattle.cursor.proofs.bit.Tie as tie
@@ -22,8 +26,11 @@ wide-requires : tie.Need-wide-requires
 wide-requires c κs = search needs
 
 returns : tie.Need-returns
-unfolding bitOf bitAt
-returns c = rw (c .wide .ensures)
+returns c =
+    let a = c .before .before .before .args in
+    rw (c .wide .ensures)
+    (sym (getD-byteBits (a .bytes .now) (a .p / 8) (a .p % 8) (omega arith) (omega arith))
+    ∙ ap (λ (p : ℕ). getD (byteBits (a .bytes .now)) p 0) (omega arith))
 
 pub bit-spec : {M : Type 1} → statement M
 bit-spec = tie.close (tie.spec shared-slice-read-x sub-s cast-wide shr-wide wide-requires returns)

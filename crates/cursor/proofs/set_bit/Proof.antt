@@ -1,8 +1,8 @@
--- `bits::set_bit` meets its contract. Each answer is a computed test over all bytes.
+-- `cursor::set_bit` meets its contract. Each answer is a computed test over all bytes.
 -- Assumes nothing.
 use mathlib.Core.Path.{_≡_}
 use native.Mathlib.Nat.{lt-of-le-of-lt}
-use Rattle.cursor.proofs.Bytes.{some, less, fits, small, bits}
+use Rattle.cursor.proofs.Bytes.{some, less, fits, small, stored}
 use borrow.Author.Needs.{needs}
 use Rattle.cursor.proofs.set_bit.Statement.{statement}
 use Rattle.cursor.proofs.set_bit.Tie as tie
@@ -35,7 +35,7 @@ add-result c =
     record { fits = small (c .args .x) (c .args .i) (c .args .b) (c .fits .x .fits) (c .pre .0) (c .pre .1) }
 
 returns : tie.Need-returns
-returns c = bits (c .args .x) (c .args .i) (c .args .b) (c .fits .x .fits) (c .pre .0) (c .pre .1)
+returns c = stored (c .args .x) (c .args .i) (c .args .b) (c .fits .x .fits) (c .pre .0) (c .pre .1)
 
 pub set-bit-spec : {M : Type 1} → statement M
 set-bit-spec =

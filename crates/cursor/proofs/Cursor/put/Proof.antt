@@ -1,23 +1,27 @@
--- `bits::Cursor::put` meets its contract. The invariant: each bit is as after k writes.
+-- `cursor::Cursor::put` meets its contract. The invariant: the bits are the entry's with the first k of the field pasted in.
 -- Assumes nothing.
 use mathlib.Core.Path.{_≡_, refl, ap, _∙_}
 use Prim.Native.Nat.{ℕ, _+_, _-_, _*_, _/_, _%_, _^_, _<_, _≤_}
 use native.Mathlib.Omega.{arith}
-use native.Mathlib.Nat.{le-antisymm}
 use lib.ListN.{length, length-set}
-use Rattle.cursor.specs.Bits.{bitAt, putAt}
-use Rattle.cursor.proofs.Fields.{set-one, put-more, put-none}
+use lib.Seq.{paste, paste-zero}
+use Rattle.basics.specs.Bits.{bits, byteBits}
+use Rattle.basics.specs.Lists.{AtMost}
+use Rattle.cursor.proofs.Bits.{at-most-set}
+use Rattle.cursor.proofs.Fields.{put-more, put-all}
 use Rattle.cursor.proofs.Cursor.put.Statement.{statement}
 use Rattle.cursor.proofs.Cursor.put.Tie as tie
 
 abbrev Inv-loop : tie.InvT-loop
-Inv-loop out₀ value n at k₀ out k = (k ≤ n) × ((length out ≡ length out₀) × ((q : ℕ) → bitAt out q ≡ putAt out₀ at value n k q))
+Inv-loop out₀ value n at k₀ out k = (k ≤ n) × ((length out ≡ length out₀) × (AtMost 255 out × (byteBits out ≡ paste (byteBits out₀) at (bits n value) k)))
 
 abbrev μ-loop : tie.MeasureT-loop
 μ-loop out₀ value n at k₀ out k = n - k
 
 loop-holds : tie.Need-loop-holds Inv-loop μ-loop
-loop-holds c = (omega arith, (refl, λ q. put-none _ _ _ _ q))
+loop-holds c =
+    let a = c .before .args in
+    (omega arith, (refl, (λ i l. omega (arith, c .slice-known .given i), paste-zero _ (a .self .at) (bits (a .n) (a .value)))))
 
 add-p : tie.Need-add-p Inv-loop μ-loop
 add-p c = omega arith
@@ -59,9 +63,7 @@ loop-again c =
       omega arith,
       (
         simp length-set (l .inv .1 .0),
-        λ q.
-            set-one (l .out) (a .self .at + l .k) _ _ (omega arith) (c .set-bit .ensures) q
-            ∙ rw (l .inv .1 .1 q) (put-more _ _ _ _ (l .k) q (omega arith)),
+        (at-most-set 255 (l .out) _ _ (l .inv .1 .1 .0) (omega arith), put-more _ (l .out) (a .self .at) (a .n) (a .value) (l .k) _ _ (omega arith) (omega arith) (l .inv .1 .0) (l .inv .1 .1 .1) refl (c .set-bit .ensures)),
       ),
     )
 
@@ -73,7 +75,10 @@ same-length c = c .before .loop .inv .1 .0
 
 returns : tie.Need-returns Inv-loop μ-loop
 returns c =
-    (refl, λ q. rw (le-antisymm (c .before .loop .inv .0) (c .loop-test .left)) at (c .before .loop .inv .1 .1 q))
+    let l = c .before .loop in
+    let a = c .before .before .before .args in
+    let e : l .k ≡ a .n = omega arith in
+    (refl, put-all _ (l .out) (a .self .at) (a .n) (a .value) (omega arith) (l .inv .1 .0) (l .inv .1 .1 .0) (l .inv .1 .1 .1 ∙ ap (paste _ (a .self .at) (bits (a .n) (a .value))) e))
 
 pub put-spec : {M : Type 1} → statement M
 put-spec =

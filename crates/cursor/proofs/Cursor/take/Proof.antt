@@ -1,24 +1,22 @@
--- `bits::Cursor::take` meets its contract. The invariant: v is the field of the k bits passed.
+-- `cursor::Cursor::take` meets its contract. The invariant: v is the field of the k bits passed.
 -- Assumes nothing.
-use mathlib.Core.Path.{_≡_, refl, ap, _∙_}
+use mathlib.Core.Path.{_≡_, refl, sym, ap, _∙_}
 use Prim.Native.Nat.{ℕ, _+_, _-_, _*_, _<_, _≤_}
 use native.Mathlib.Omega.{arith}
 use native.Mathlib.Nat.{le-antisymm}
-use native.Mathlib.Numerals.{add-one}
-use Rattle.cursor.specs.Bits.{fieldOf}
-use Rattle.cursor.proofs.Fields.{field-16, bit-small}
+use Rattle.cursor.specs.Cursor.{field}
+use Rattle.cursor.proofs.Fields.{field-none, field-more, field-16, bit-le}
 use Rattle.cursor.proofs.Cursor.take.Statement.{statement}
 use Rattle.cursor.proofs.Cursor.take.Tie as tie
 
 abbrev Inv-loop : tie.InvT-loop
-Inv-loop bytes n at v₀ k₀ v k = (k ≤ n) × (v ≡ fieldOf bytes at k)
+Inv-loop bytes n at v₀ k₀ v k = (k ≤ n) × (v ≡ field bytes at k)
 
 abbrev μ-loop : tie.MeasureT-loop
 μ-loop bytes n at v₀ k₀ v k = n - k
 
 loop-holds : tie.Need-loop-holds Inv-loop μ-loop
-unfolding fieldOf
-loop-holds c = (omega arith, refl)
+loop-holds c = (omega arith, field-none _ _)
 
 mul-v : tie.Need-mul-v Inv-loop μ-loop
 mul-v c =
@@ -33,7 +31,7 @@ bit-requires c κs = omega arith
 add-v : tie.Need-add-v Inv-loop μ-loop
 add-v c =
     let a = c .before .before .before .before .args in
-    omega (arith, field-16 (a .bytes .now) (a .self .at) (c .before .before .loop .k) (omega arith), bit-small (a .bytes .now) (a .self .at + c .before .before .loop .k))
+    omega (arith, field-16 (a .bytes .now) (a .self .at) (c .before .before .loop .k) (omega arith), bit-le (a .bytes .now) (a .self .at + c .before .before .loop .k))
 
 add-k : tie.Need-add-k Inv-loop μ-loop
 add-k c = omega arith
@@ -42,15 +40,14 @@ loop-less : tie.Need-loop-less Inv-loop μ-loop
 loop-less c = omega arith
 
 loop-again : tie.Need-loop-again Inv-loop μ-loop
-unfolding fieldOf
-loop-again c = (omega arith, rw (add-one, c .before .before .loop .inv .1, c .bit .ensures))
+loop-again c = (omega arith, rw (c .before .before .loop .inv .1, c .bit .ensures) (sym (field-more _ _ _ (omega arith))))
 
 add-t11 : tie.Need-add-t11 Inv-loop μ-loop
 add-t11 c = omega arith
 
 returns : tie.Need-returns Inv-loop μ-loop
 returns c =
-    (c .before .loop .inv .1 ∙ ap (fieldOf _ _) (le-antisymm (c .before .loop .inv .0) (c .loop-test .left)), refl)
+    (c .before .loop .inv .1 ∙ ap (field _ _) (le-antisymm (c .before .loop .inv .0) (c .loop-test .left)), refl)
 
 pub take-spec : {M : Type 1} → statement M
 take-spec =
