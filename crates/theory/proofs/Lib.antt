@@ -10,3 +10,4 @@ pub mod Places
 pub mod Root
 pub mod Run
 pub mod Sum
+pub mod Values

@@ -72,7 +72,7 @@ module _ (K : Field) where
   unfolding mix
   mix-below j k q a b h l m = rw (mix, shift-below j a h l, shift-below k b h m) (simp ring)
 
-  mix-lead : (j k : ℕ) (q : F) (A : ℕ → F) {B : ℕ → F} {L m : ℕ} → Monic K L A → Below K m B → k + m ≤ j + L → mix K j k q A B (j + L) ≡ 𝟙
+  pub mix-lead : (j k : ℕ) (q : F) (A : ℕ → F) {B : ℕ → F} {L m : ℕ} → Monic K L A → Below K m B → k + m ≤ j + L → mix K j k q A B (j + L) ≡ 𝟙
   unfolding mix
   mix-lead j k q A {L = L} a b l = rw (mix, shift-at j L A, a .lead, shift-below k b (j + L) l) (simp ring)
 

@@ -16,37 +16,37 @@ module _ (K : Field) where
   open Field K using (F, _⊕_, _⊗_, 𝟘, 𝟙)
 
   -- the constant coefficient and the rest
-  eval-front : (n : ℕ) {A : ℕ → F} (x : F) → Below K n A → eval K n A x ≡ A 0 ⊕ x ⊗ eval K n (λ k. A (suc k)) x
+  pub eval-front : (n : ℕ) {A : ℕ → F} (x : F) → Below K n A → eval K n A x ≡ A 0 ⊕ x ⊗ eval K n (λ k. A (suc k)) x
   unfolding eval sum pow
   eval-front zero x b = rw (b 0 (omega arith)) (simp ring)
   eval-front (suc n) x b =
       sum-front K n _
       ∙ ap₂ _⊕_ (⊗-one K _) (sum-cong K n (λ k l. ⊗-left-comm K _ x _) ∙ sum-⊗ K n x _ ∙ ap (λ y. x ⊗ y) (sym (sum-less K n _ (rw (b (suc n) (omega arith)) (zero-⊗ K _)))))
 
-  eval-⊕ : (n : ℕ) (A B : ℕ → F) (c x : F) → eval K n (λ k. A k ⊕ c ⊗ B k) x ≡ eval K n A x ⊕ c ⊗ eval K n B x
+  pub eval-⊕ : (n : ℕ) (A B : ℕ → F) (c x : F) → eval K n (λ k. A k ⊕ c ⊗ B k) x ≡ eval K n A x ⊕ c ⊗ eval K n B x
   unfolding eval
   eval-⊕ n A B c x = rw (eval, ← sum-⊗ K n c, ← sum-⊕ K) (simp ring)
 
-  eval-constant : (n : ℕ) {A : ℕ → F} (x : F) → 0 < n → Below K 1 A → eval K n A x ≡ A 0
+  pub eval-constant : (n : ℕ) {A : ℕ → F} (x : F) → 0 < n → Below K 1 A → eval K n A x ≡ A 0
   unfolding eval pow
   eval-constant n x l b = sum-single K n 0 l (λ k m d. rw (b k (omega arith)) (zero-⊗ K _)) ∙ ⊗-one K _
 
   -- A divided by the variable minus x
-  quotient : ℕ → (ℕ → F) → F → ℕ → F
+  unfoldable pub quotient : ℕ → (ℕ → F) → F → ℕ → F
   quotient n A x k = eval K n (λ l. A (suc (k + l))) x
 
-  quotient-below : (n m : ℕ) (A : ℕ → F) (x : F) → Below K (suc m) A → Below K m (quotient n A x)
+  pub quotient-below : (n m : ℕ) (A : ℕ → F) (x : F) → Below K (suc m) A → Below K m (quotient n A x)
   unfolding quotient eval
   quotient-below n m A x b k l = sum-zero K n (λ h q. rw (b (suc (k + h)) (omega arith)) (zero-⊗ K _))
 
-  quotient-monic : (n L : ℕ) (A : ℕ → F) (x : F) → 0 < n → Monic K (suc L) A → Monic K L (quotient n A x)
+  pub quotient-monic : (n L : ℕ) (A : ℕ → F) (x : F) → 0 < n → Monic K (suc L) A → Monic K L (quotient n A x)
   unfolding quotient
   quotient-monic n L A x l c = record {
     lead = eval-constant n x l (λ k m. c .below (suc (L + k)) (omega arith)) ∙ ap (λ k. A (suc k)) (add-zero L) ∙ c .lead;
     below = quotient-below n (suc L) A x (c .below);
   }
 
-  quotient-step : (n : ℕ) (A : ℕ → F) (x : F) (k : ℕ) → Below K n A → quotient n A x k ≡ A (suc k) ⊕ x ⊗ quotient n A x (suc k)
+  pub quotient-step : (n : ℕ) (A : ℕ → F) (x : F) (k : ℕ) → Below K n A → quotient n A x k ≡ A (suc k) ⊕ x ⊗ quotient n A x (suc k)
   unfolding quotient
   quotient-step n A x k b = eval-front n x (λ h q. b (suc (k + h)) (omega arith)) ∙ simp (add-zero, add-suc, suc-add)
 
@@ -54,7 +54,7 @@ module _ (K : Field) where
   unfolding quotient
   quotient-first n A x b = eval-front n x b ∙ simp (quotient, zero-add)
 
-  divide : (n : ℕ) (A : ℕ → F) (x y : F) → Below K n A → eval K n A y ≡ eval K n A x ⊕ (y ⊕ x) ⊗ eval K n (quotient n A x) y
+  pub divide : (n : ℕ) (A : ℕ → F) (x y : F) → Below K n A → eval K n A y ≡ eval K n A x ⊕ (y ⊕ x) ⊗ eval K n (quotient n A x) y
   divide n A x y b = rw (eval-front n {A = A} y b, below, quotient-first n A x b, eval-front n {A = quotient n A x} y (quotient-below n n A x (λ k l. b k (omega arith)))) (simp ring)
     where
       below : eval K n (λ k. A (suc k)) y ≡ eval K n (quotient n A x) y ⊕ x ⊗ eval K n (λ k. quotient n A x (suc k)) y
