@@ -1,0 +1,2 @@
+pub mod Damage
+pub mod Same
