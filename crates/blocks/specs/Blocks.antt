@@ -6,6 +6,7 @@ use Prim.Native.Nat.{ℕ, _+_, _-_, _*_}
 use lib.Dec.{ltb}
 use lib.ListN.{getD, take, drop}
 use Rattle.basics.specs.Lists.{upTo, keep, joined}
+use Rattle.basics.specs.Sums.{sum}
 use Rattle.tables.specs.Tables.{blockCount, checkCount, dataCount, shortLength, shortBlocks, blockData, blockStart, blockLength}
 use Rattle.code.specs.Code.{checks}
 
@@ -52,6 +53,18 @@ sentPlace v level b p =
 -- block b of what stands at each place of the sent order
 unfoldable pub gathered : (v level : ℕ) (at : ℕ → ℕ) (b : ℕ) → List ℕ
 gathered v level at b = map (λ p. at (sentPlace v level b p)) (upTo (blockLength v level b))
+
+-- the blocks one after the other
+unfoldable pub gatheredAll : (v level : ℕ) (at : ℕ → ℕ) → List ℕ
+gatheredAll v level at = joined (map (gathered v level at) (upTo (blockCount v level)))
+
+-- where block b starts in blocks that stand one after the other
+unfoldable pub blockOffset : (v level b : ℕ) → ℕ
+blockOffset v level b = sum b (blockLength v level)
+
+-- block b of them
+unfoldable pub blockOf : (v level : ℕ) (blocks : List ℕ) (b : ℕ) → List ℕ
+blockOf v level blocks b = take (blockLength v level b) (drop (blockOffset v level b) blocks)
 
 -- the data codewords of all blocks, in block order
 unfoldable pub dataOf : (v level : ℕ) → (block : ℕ → List ℕ) → List ℕ

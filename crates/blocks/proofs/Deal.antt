@@ -1,0 +1,122 @@
+-- What is sent is gathered to the blocks that were dealt, and their data is the data: `deal-gather`, `data-back`.
+-- A codeword that is sent is looked up by `sent-once`; the data is a list cut at the blocks' starts.
+-- Assumes nothing.
+use mathlib.Core.Path.{_≡_, refl, sym, ap, _∙_}
+use mathlib.Core.List.{List, [], _∷_, _++_, map}
+use Prim.Native.Nat.{ℕ, zero, suc, _+_, _-_, _<_, _≤_}
+use native.Mathlib.Nat.{add-sub-cancel-left}
+use native.Mathlib.Omega.{arith}
+use lib.ListN.{length, take, drop, getD, replicate, length-append, length-drop, length-replicate}
+use lib.Seq.{length-take-le, take-at, take-all}
+use Rattle.basics.specs.Lists.{upTo, joined}
+use Rattle.basics.specs.Sums.{sum}
+use Rattle.basics.proofs.Lists.{getD-map, getD-map-upTo, map-upTo-same, list-upTo, length-map, length-map-upTo}
+use Rattle.basics.proofs.Sums.{sum-mono}
+use Rattle.tables.specs.Tables.{total, checkCount, blockCount, dataCount, blockData, blockStart, blockLength, Lawful}
+use Rattle.tables.proofs.Rules.{data-sum, length-sum, block-end}
+use Rattle.code.specs.Code.{plus, divided, lower, generator, checks}
+use Rattle.blocks.specs.Blocks.{block, Cell, sentOrder, inOrder, sent, sentPlace, gathered, gatheredAll, blockOffset, blockOf, dataOf}
+use Rattle.blocks.proofs.Cuts.{cut, length-joined, part-joined}
+use Rattle.blocks.proofs.Order.{SentOnce, sent-once}
+
+-- ---- as many checks as asked for
+
+length-plus : (xs ys : List ℕ) → length (plus xs ys) ≡ length xs
+unfolding plus
+length-plus [] ys = refl
+length-plus (x ∷ xs) [] = refl
+length-plus (x ∷ xs) (y ∷ ys) = ap suc (length-plus xs ys)
+
+length-divided : (low : List ℕ) (k : ℕ) (cs : List ℕ) → length (divided low k cs) ≡ length cs - k
+unfolding divided
+length-divided low zero cs = omega arith
+length-divided low (suc k) [] = omega arith
+length-divided low (suc k) (c ∷ cs) = length-divided low k _ ∙ rw length-plus (omega arith)
+
+pub length-checks : (n : ℕ) (held : List ℕ) → length (checks n held) ≡ n
+unfolding checks
+length-checks n held =
+    length-divided (lower (generator n)) (length held) (held ++ replicate n 0)
+    ∙ rw (length-append, length-replicate) (add-sub-cancel-left (length held) n)
+
+-- ---- blocks one after the other
+
+module _ (v level : ℕ) where
+  pub length-gathered : (at : ℕ → ℕ) (b : ℕ) → length (gathered v level at b) ≡ blockLength v level b
+  unfolding gathered
+  length-gathered at b = length-map-upTo (λ p. at (sentPlace v level b p)) (blockLength v level b)
+
+  pub offset-next : (b : ℕ) → blockOffset v level (suc b) ≡ blockOffset v level b + blockLength v level b
+  unfolding blockOffset sum
+  offset-next b = refl
+
+  -- block b starts at its offset
+  pub block-of-joined : (f : ℕ → List ℕ) → ((b : ℕ) → b < blockCount v level → length (f b) ≡ blockLength v level b) → (b : ℕ) → b < blockCount v level
+      → blockOf v level (joined (map f (upTo (blockCount v level)))) b ≡ f b
+  unfolding blockOf blockOffset
+  block-of-joined f h b l = part-joined f (blockLength v level) (blockCount v level) h b l
+
+  pub block-of-gathered : (at : ℕ → ℕ) (b : ℕ) → b < blockCount v level → blockOf v level (gatheredAll v level at) b ≡ gathered v level at b
+  unfolding gatheredAll
+  block-of-gathered at b h = block-of-joined (gathered v level at) (λ b l. length-gathered at b) b h
+
+  -- the data goes by the blocks that there are
+  pub data-same : (f g : ℕ → List ℕ) → ((b : ℕ) → b < blockCount v level → f b ≡ g b) → dataOf v level f ≡ dataOf v level g
+  unfolding dataOf
+  data-same f g h = ap joined (map-upTo-same _ _ (blockCount v level) (λ b l. ap (take (blockData v level b)) (h b l)))
+
+module _ (v level : ℕ) (lawful : Lawful v level) where
+  pub offset-end : (b : ℕ) → b < blockCount v level → blockOffset v level b + blockLength v level b ≤ total v
+  unfolding blockOffset sum
+  offset-end b h = omega (arith, sum-mono (suc b) (blockCount v level) (blockLength v level) h, length-sum v level lawful)
+
+  pub length-gathered-all : (at : ℕ → ℕ) → length (gatheredAll v level at) ≡ total v
+  unfolding gatheredAll
+  length-gathered-all at = length-joined (gathered v level at) (blockLength v level) (blockCount v level) (λ b l. length-gathered v level at b) ∙ length-sum v level lawful
+
+  -- ---- a block that is dealt
+
+  module _ (codewords : List ℕ) (long : length codewords ≡ dataCount v level) where
+    pub length-held : (b : ℕ) → b < blockCount v level → length (take (blockData v level b) (drop (blockStart v level b) codewords)) ≡ blockData v level b
+    length-held b h =
+        length-take-le (blockData v level b) (drop (blockStart v level b) codewords)
+        (rw length-drop (omega (arith, block-end v level b lawful h)))
+
+    pub length-block : (b : ℕ) → b < blockCount v level → length (block v level codewords b) ≡ blockLength v level b
+    unfolding block blockLength
+    length-block b h =
+        length-append (take (blockData v level b) (drop (blockStart v level b) codewords)) (checks (checkCount v level) (take (blockData v level b) (drop (blockStart v level b) codewords)))
+        ∙ rw (length-held b h, length-checks)
+
+    -- ---- what is sent at the place of a codeword of a block
+
+    pub sent-at : (b p : ℕ) → b < blockCount v level → p < blockLength v level b
+        → getD (sent v level codewords) (sentPlace v level b p) 0 ≡ getD (block v level codewords b) p 0
+    unfolding sent inOrder
+    sent-at b p hb hp =
+        let once = sent-once v level lawful in
+        let blocks = map (block v level codewords) (upTo (blockCount v level)) in
+        getD-map (λ (c : Cell). getD (getD blocks (c .of) []) (c .at) 0) (sentOrder v level) (sentPlace v level b p) (record { of = 0; at = 0 }) 0
+        (rw (once .long) (once .inside b p hb hp))
+        ∙ ap (λ (c : Cell). getD (getD blocks (c .of) []) (c .at) 0) (once .at b p hb hp)
+        ∙ ap (λ (l : List ℕ). getD l p 0) (getD-map-upTo (block v level codewords) (blockCount v level) b [] hb)
+
+    pub length-sent : length (sent v level codewords) ≡ total v
+    unfolding sent inOrder
+    length-sent = length-map _ (sentOrder v level) ∙ sent-once v level lawful .long
+
+    pub deal-gather : (b : ℕ) → b < blockCount v level → gathered v level (λ q. getD (sent v level codewords) q 0) b ≡ block v level codewords b
+    unfolding gathered
+    deal-gather b h =
+        map-upTo-same (λ p. getD (sent v level codewords) (sentPlace v level b p) 0) (λ p. getD (block v level codewords b) p 0) (blockLength v level b) (λ p l. sent-at b p h l)
+        ∙ ap (λ (n : ℕ). map (λ p. getD (block v level codewords b) p 0) (upTo n)) (sym (length-block b h))
+        ∙ list-upTo (block v level codewords b)
+
+    pub data-back : dataOf v level (block v level codewords) ≡ codewords
+    unfolding dataOf block blockStart
+    data-back =
+        ap joined
+        (map-upTo-same _ (λ b. take (blockData v level b) (drop (sum b (blockData v level)) codewords)) (blockCount v level)
+        (λ b h. take-at _ _ (blockData v level b) (length-held b h)))
+        ∙ cut codewords (blockData v level) (blockCount v level)
+        ∙ take-all (sum (blockCount v level) (blockData v level)) codewords (omega (arith, data-sum v level lawful))
