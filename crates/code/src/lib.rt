@@ -1,1 +1,84 @@
-// code
+// The code of a block: the checks of data, written into a lent part.
+ghost use mathlib.Core.Path.{_≡_};
+ghost use mathlib.Core.List.{_++_};
+ghost use Prim.Native.Nat.{suc, _+_, _-_, _≤_, _<_};
+ghost use lib.Bits.{bitXor};
+ghost use lib.ListN.{length, take, getD, replicate};
+ghost use Rattle.basics.specs.Build.{build};
+ghost use Rattle.field.specs.Field.{mulN, powN};
+ghost use Rattle.code.specs.Code.{checks, generator as generatorOf};
+ghost use Rattle.code.specs.Lanes.{rooted, reduced, padded};
+
+// The product of a polynomial and (x − a).
+fn times_root(g: [u8; 33], a: u8) -> [u8; 33]
+    ensures { λ r. ⌜ r ≡ build (rooted g a) 33 ⌝ }
+{
+    let mut r = g;
+    let mut k: usize = 0;
+    while k < 32 {
+        r[k + 1] = g[k + 1] ^ field::mul(a, g[k]);
+        k += 1;
+    }
+    r
+}
+
+// The generator for n checks, the highest power first.
+fn generator(n: usize) -> [u8; 33]
+    requires { ⌜ n ≤ 30 ⌝ }
+    ensures { λ r. ⌜ r ≡ padded 33 (generatorOf n) ⌝ }
+{
+    let mut g: [u8; 33] = [0; 33];
+    g[0] = 1;
+    let mut root: u8 = 1;
+    let mut i: usize = 0;
+    while i < n {
+        let next = times_root(g, root);
+        g = next;
+        root = field::dbl(root);
+        i += 1;
+    }
+    g
+}
+
+// The remainder r after one more data codeword d.
+fn reduce(r: [u8; 33], g: [u8; 33], d: u8) -> [u8; 33]
+    ensures { λ s. ⌜ s ≡ build (reduced r g d) 32 ++ replicate 1 0 ⌝ }
+{
+    let c = d ^ r[0];
+    let mut s: [u8; 33] = [0; 33];
+    let mut k: usize = 0;
+    while k < 32 {
+        s[k] = r[k + 1] ^ field::mul(c, g[k + 1]);
+        k += 1;
+    }
+    s
+}
+
+// The remainder of the data times x^n, n coefficients from the front.
+fn remainder(held: &[u8], n: usize) -> [u8; 33]
+    requires { ⌜ n ≤ 30 ⌝ }
+    ensures { λ r. ⌜ take n r ≡ checks n (now (held .entry)) ⌝ }
+{
+    let g = generator(n);
+    let mut r: [u8; 33] = [0; 33];
+    let mut i: usize = 0;
+    while i < held.len() {
+        let next = reduce(r, g, held[i]);
+        r = next;
+        i += 1;
+    }
+    r
+}
+
+// The checks of the data, as many as the part has places.
+pub fn checks_into(held: &[u8], out: &mut [u8])
+    requires { ⌜ length (now out) ≤ 30 ⌝ }
+    ensures { λ _. ⌜ now (out .exit) ≡ checks (length (now (out .entry))) (now (held .entry)) ⌝ }
+{
+    let r = remainder(held, out.len());
+    let mut j: usize = 0;
+    while j < out.len() {
+        out[j] = r[j];
+        j += 1;
+    }
+}
