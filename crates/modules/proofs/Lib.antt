@@ -1,0 +1,4 @@
+pub mod Geometry
+pub mod Kept
+pub mod Open
+pub mod Tests
