@@ -3,7 +3,7 @@ ghost use mathlib.Core.Path.{_≡_};
 ghost use Prim.Native.Nat.{_+_, _*_, _<_, _≤_};
 ghost use lib.ListN.{length, getD, set};
 ghost use Rattle.basics.specs.Bits.{bits, byteBits};
-ghost use Rattle.cursor.specs.Cursor.{field, withField};
+ghost use Rattle.cursor.specs.Cursor.{field, withBits};
 
 pub struct Cursor {
     pub at: usize,
@@ -62,7 +62,7 @@ impl Cursor {
     // The n bits of a value, written; every other bit as it was.
     pub fn put(self, out: &mut [u8], value: u32, n: usize) -> Cursor
         requires { ⌜ (n ≤ 16) × ((length (now out) ≤ 4096) × (self .at + n ≤ 8 * length (now out))) ⌝ }
-        ensures { λ r. ⌜ (r .at ≡ self .at + n) × (now (out .exit) ≡ withField (now (out .entry)) (self .at) n value) ⌝ }
+        ensures { λ r. ⌜ (r .at ≡ self .at + n) × (now (out .exit) ≡ withBits (now (out .entry)) (self .at) (bits n value)) ⌝ }
     {
         let at = self.at;
         let mut k = 0;
