@@ -1,71 +1,106 @@
 -- Data codewords back to a message, or the first fault.
 -- Assumes nothing.
-use mathlib.Core.Bool.{cond, _||_}
+use mathlib.Core.Bool.{Bool, true, false, cond, _&&_, _||_}
 use mathlib.Core.List.{List, [], _∷_, _++_}
-use Prim.Native.Nat.{ℕ, zero, suc, _/_, _%_}
+use Prim.Native.Nat.{ℕ, zero, suc, _+_, _/_, _%_}
 use lib.Dec.{leb, ltb, eqb}
 use lib.ListN.{length, take, drop}
-use Rattle.basics.specs.Bits.{byteBits, number}
+use Rattle.basics.specs.Bits.{byteBits, number, bytes}
 use Rattle.tables.specs.Tables.{countWidth}
 use Rattle.stream.specs.Stream.{character, known, bodyWidth}
+
+-- ---- a body: its characters, and whether its groups are in range
+
+-- "Numeric: three digits as one number in 10 bits, two left in 7, one left in 4"
+unfoldable pub digits : (count : ℕ) → List ℕ → List ℕ
+digits zero bs = []
+digits (suc zero) bs = character (number (take 4 bs)) ∷ []
+digits (suc (suc zero)) bs = let x = number (take 7 bs) in character (x / 10) ∷ character (x % 10) ∷ []
+digits (suc (suc (suc n))) bs =
+    let x = number (take 10 bs) in character (x / 100) ∷ character (x / 10 % 10) ∷ character (x % 10) ∷ digits n (drop 10 bs)
+
+-- "Groups above 999, 99, 9 .. are refusal 15"
+unfoldable pub digitsInRange : (count : ℕ) → List ℕ → Bool
+digitsInRange zero bs = true
+digitsInRange (suc zero) bs = leb (number (take 4 bs)) 9
+digitsInRange (suc (suc zero)) bs = leb (number (take 7 bs)) 99
+digitsInRange (suc (suc (suc n))) bs = leb (number (take 10 bs)) 999 && digitsInRange n (drop 10 bs)
+
+-- "Alphanumeric: a pair a, b as 45a + b in 11 bits, one left in 6"
+unfoldable pub pairs : (count : ℕ) → List ℕ → List ℕ
+pairs zero bs = []
+pairs (suc zero) bs = character (number (take 6 bs)) ∷ []
+pairs (suc (suc n)) bs = let x = number (take 11 bs) in character (x / 45) ∷ character (x % 45) ∷ pairs n (drop 11 bs)
+
+-- "or, alphanumeric, above 2024, 44"
+unfoldable pub pairsInRange : (count : ℕ) → List ℕ → Bool
+pairsInRange zero bs = true
+pairsInRange (suc zero) bs = leb (number (take 6 bs)) 44
+pairsInRange (suc (suc n)) bs = leb (number (take 11 bs)) 2024 && pairsInRange n (drop 11 bs)
+
+-- "Byte: 8 bits"; no byte is out of range
+unfoldable pub characters : (mode count : ℕ) → List ℕ → List ℕ
+characters mode count bs = cond (eqb mode 1) (digits count bs) (cond (eqb mode 2) (pairs count bs) (bytes count bs))
+
+unfoldable pub inRange : (mode count : ℕ) → List ℕ → Bool
+inRange mode count bs = cond (eqb mode 1) (digitsInRange count bs) (cond (eqb mode 2) (pairsInRange count bs) true)
+
+-- ---- the front of the stream
+
+-- what stands at the front: nothing more, a whole segment, or a fault
+pub data Front : Type 0 where
+  End : Front
+  Segment : (mode count : ℕ) → Front
+  Refusal : ℕ → Front
+
+-- the rest where the test passes, else a refusal
+abbrev pub demand : (test : Bool) (refusal : ℕ) → Front → Front
+demand true refusal rest = rest
+demand false refusal rest = Refusal refusal
+
+-- "4-bit mode, count": the bits before a body
+unfoldable pub headWidth : (v mode : ℕ) → ℕ
+headWidth v mode = 4 + countWidth v mode
+
+-- 13: "unknown mode in the stream". 14: "a count field or segment body runs past the data bits". 15: "a group out of range".
+-- "Within a segment: mode, count field, whole body length (14), then groups (15)."
+unfoldable pub segment : (v mode count : ℕ) → List ℕ → Front
+segment v mode count bs =
+    let ranged = inRange mode count (drop (headWidth v mode) bs) in
+    demand (known mode) 13
+    (demand (leb (headWidth v mode) (length bs)) 14
+    (demand (leb (headWidth v mode + bodyWidth mode count) (length bs)) 14
+    (demand ranged 15
+    (Segment mode count))))
+
+-- "Reading: fewer than four bits left, or mode 0, ends the stream; what follows is ignored."
+unfoldable pub front : (v : ℕ) → List ℕ → Front
+front v bs =
+    let mode = number (take 4 bs) in
+    let count = number (take (countWidth v mode) (drop 4 bs)) in
+    cond (ltb (length bs) 4 || eqb mode 0) End (segment v mode count bs)
+
+-- ---- the whole stream
 
 -- what a stream holds: a message, or the first fault
 pub data Parsed : Type 0 where
   Message : (payload list : List ℕ) → Parsed
   Fault : ℕ → Parsed
 
--- a group in front of the others: refusal 15 if it is above what its characters can make
-abbrev pub group : (limit x : ℕ) (chars : List ℕ) → Parsed → Parsed
-group limit x chars (Message payload list) = cond (leb x limit) (Message (chars ++ payload) list) (Fault 15)
-group limit x chars (Fault n) = cond (leb x limit) (Fault n) (Fault 15)
+-- a segment in front of what follows it
+abbrev pub inFront : (mode count : ℕ) (chars : List ℕ) → Parsed → Parsed
+inFront mode count chars (Message payload list) = Message (chars ++ payload) (mode ∷ count ∷ list)
+inFront mode count chars (Fault n) = Fault n
 
--- "Groups above 999, 99, 9 .. are refusal 15"
-unfoldable pub numericGroups : (count : ℕ) (bs : List ℕ) → Parsed → Parsed
-numericGroups zero bs rest = rest
-numericGroups (suc zero) bs rest = let x = number (take 4 bs) in group 9 x (character x ∷ []) rest
-numericGroups (suc (suc zero)) bs rest =
-    let x = number (take 7 bs) in group 99 x (character (x / 10) ∷ character (x % 10) ∷ []) rest
-numericGroups (suc (suc (suc n))) bs rest =
-    let x = number (take 10 bs) in
-    group 999 x (character (x / 100) ∷ character (x / 10 % 10) ∷ character (x % 10) ∷ []) (numericGroups n (drop 10 bs) rest)
-
--- "or, alphanumeric, above 2024, 44"
-unfoldable pub alphanumericGroups : (count : ℕ) (bs : List ℕ) → Parsed → Parsed
-alphanumericGroups zero bs rest = rest
-alphanumericGroups (suc zero) bs rest = let x = number (take 6 bs) in group 44 x (character x ∷ []) rest
-alphanumericGroups (suc (suc n)) bs rest =
-    let x = number (take 11 bs) in group 2024 x (character (x / 45) ∷ character (x % 45) ∷ []) (alphanumericGroups n (drop 11 bs) rest)
-
-unfoldable pub byteGroups : (count : ℕ) (bs : List ℕ) → Parsed → Parsed
-byteGroups zero bs rest = rest
-byteGroups (suc n) bs rest = let x = number (take 8 bs) in group 255 x (x ∷ []) (byteGroups n (drop 8 bs) rest)
-
-unfoldable pub groups : (mode count : ℕ) (bs : List ℕ) → Parsed → Parsed
-groups mode count bs rest =
-    cond (eqb mode 1) (numericGroups count bs rest) (cond (eqb mode 2) (alphanumericGroups count bs rest) (byteGroups count bs rest))
-
--- a segment in front of the others
-abbrev pub listed : (mode count : ℕ) → Parsed → Parsed
-listed mode count (Message payload list) = Message payload (mode ∷ count ∷ list)
-listed mode count (Fault n) = Fault n
-
--- "Reading: fewer than four bits left, or mode 0, ends the stream; what follows is ignored." 13: unknown mode. 14: a count field or
--- segment body runs past the data bits. "Within a segment: mode, count field, whole body length (14), then groups (15)."
--- A segment takes four bits or more, so the number of bits is fuel enough.
+-- "the stream from its front, where the first fault decides". A segment takes four bits or more, so the number of bits is fuel enough.
 unfoldable pub parse : (fuel v : ℕ) → List ℕ → Parsed
 parse zero v bs = Message [] []
 parse (suc fuel) v bs =
-    let mode = number (take 4 bs) in
-    let field = drop 4 bs in
-    let width = countWidth v mode in
-    let count = number (take width field) in
-    let content = drop width field in
-    let after = parse fuel v (drop (bodyWidth mode count) content) in
-    let held = groups mode count content (listed mode count after) in
-    let whole = cond (leb (bodyWidth mode count) (length content)) held (Fault 14) in
-    let counted = cond (leb width (length field)) whole (Fault 14) in
-    let segment = cond (known mode) counted (Fault 13) in
-    cond (ltb (length bs) 4 || eqb mode 0) (Message [] []) segment
+    elim (front v bs)
+    [ End ↦ Message [] []
+    | Segment mode count ↦
+        inFront mode count (characters mode count (drop (headWidth v mode) bs)) (parse fuel v (drop (headWidth v mode + bodyWidth mode count) bs))
+    | Refusal n ↦ Fault n ]
 
 -- what the data codewords hold
 unfoldable pub message : (v : ℕ) → (codewords : List ℕ) → Parsed
