@@ -96,11 +96,12 @@ inFront mode count chars (Fault n) = Fault n
 unfoldable pub parse : (fuel v : ℕ) → List ℕ → Parsed
 parse zero v bs = Message [] []
 parse (suc fuel) v bs =
-    elim (front v bs)
-    [ End ↦ Message [] []
-    | Segment mode count ↦
-        inFront mode count (characters mode count (drop (headWidth v mode) bs)) (parse fuel v (drop (headWidth v mode + bodyWidth mode count) bs))
-    | Refusal n ↦ Fault n ]
+    elim (front v bs) [
+      | End ↦ Message [] []
+      | Segment mode count ↦
+          inFront mode count (characters mode count (drop (headWidth v mode) bs)) (parse fuel v (drop (headWidth v mode + bodyWidth mode count) bs))
+      | Refusal n ↦ Fault n
+    ]
 
 -- what the data codewords hold
 unfoldable pub message : (v : ℕ) → (codewords : List ℕ) → Parsed

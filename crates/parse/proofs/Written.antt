@@ -1,0 +1,92 @@
+-- A stream that was written is read back. Each segment's head is its mode and count, its body reads back, and what follows the last
+-- segment is up to four zero bits as fit, so fewer than four bits or mode 0 end the stream.
+-- Assumes nothing.
+use mathlib.Core.Path.{_≡_, refl, sym, ap, ap₂, subst, _∙_}
+use mathlib.Core.Bool.{Bool, true, false, cond, _&&_, _||_}
+use mathlib.Core.Logic.{_⊎_, inl, inr, ⊎-elim}
+use mathlib.Core.List.{List, [], _∷_, _++_, append-assoc}
+use Prim.Native.Nat.{ℕ, zero, suc, _+_, _-_, _*_, _/_, _%_, _^_, _<_, _≤_, min}
+use native.Mathlib.Nat.{le-of-suc-le-suc, not-suc-le-zero}
+use native.Mathlib.Omega.{arith}
+use lib.Dec.{leb, ltb, eqb, T, leb→le}
+use lib.ListN.{length, getD, take, drop, replicate, length-append, take-append-drop, length-drop, length-replicate}
+use lib.Seq.{take-at, drop-at, length-take-le, getD-take, getD-drop, drop-drop}
+use borrow.Author.Tests.{leb-true, lt-ltb, le-ltb, eq-eqb}
+use Rattle.basics.specs.Bits.{bits, byteBits, number, bytes}
+use Rattle.basics.specs.Lists.{each, AtMost}
+use Rattle.basics.proofs.Bits.{length-bits, length-byteBits, byteBits-append}
+use Rattle.tables.specs.Tables.{countWidth, dataCount, Lawful}
+use Rattle.stream.specs.Stream
+use Rattle.stream.specs.Stream.{codeOf, known, inMode, numericBits, alphanumericBits, body, bodyWidth, segments, segmentsWidth, lawfulList, counts, lawfulCharacters, fits, LawfulMessage}
+use Rattle.parse.specs.Parse.{characters, inRange, Front, End, Segment, headWidth, front, Parsed, Message, inFront, parse, message}
+use Rattle.parse.proofs.Body.{both-left, both-right, by-mode, number-front, drop-front, body-written}
+use Rattle.parse.proofs.Front.{known-small, Whole, whole-segment, parse-segment, parse-end}
+
+-- ---- the length of a body
+
+numeric-length : (cs : List ℕ) → length (numericBits cs) ≡ bodyWidth 1 (length cs)
+unfolding numericBits bodyWidth
+numeric-length [] = refl
+numeric-length (a ∷ []) = length-bits 4 (codeOf a)
+numeric-length (a ∷ b ∷ []) = length-bits 7 (10 * codeOf a + codeOf b)
+numeric-length (a ∷ b ∷ c ∷ cs) =
+    let n : ℕ = length cs in
+    let q : suc (suc (suc n)) / 3 ≡ suc (n / 3) = omega arith in
+    let r : suc (suc (suc n)) % 3 ≡ n % 3 = omega arith in
+    rw (length-append (bits 10 (100 * codeOf a + 10 * codeOf b + codeOf c)) (numericBits cs), length-bits 10 (100 * codeOf a + 10 * codeOf b + codeOf c), numeric-length cs, q, r)
+    (omega arith)
+
+alphanumeric-length : (cs : List ℕ) → length (alphanumericBits cs) ≡ bodyWidth 2 (length cs)
+unfolding alphanumericBits bodyWidth
+alphanumeric-length [] = refl
+alphanumeric-length (a ∷ []) = length-bits 6 (codeOf a)
+alphanumeric-length (a ∷ b ∷ cs) =
+    rw (length-append (bits 11 (45 * codeOf a + codeOf b)) (alphanumericBits cs), length-bits 11 (45 * codeOf a + codeOf b), alphanumeric-length cs)
+    (omega arith)
+
+pub body-length : (mode : ℕ) (cs : List ℕ) → known mode ≡ true → length (body mode cs) ≡ bodyWidth mode (length cs)
+unfolding body bodyWidth
+body-length mode cs k =
+    by-mode mode k (λ e. rw e (numeric-length cs)) (λ e. rw e (alphanumeric-length cs)) (λ e. rw e (length-byteBits cs))
+
+-- ---- one segment
+
+module _ (v mode count : ℕ) (cs rest : List ℕ) (k : known mode ≡ true) (c : count < 2 ^ countWidth v mode)
+    (l : length cs ≡ count) (m : each (inMode mode) cs ≡ true) (b : AtMost 255 cs) where
+  abbrev pub segmentBits : List ℕ
+  segmentBits = bits 4 mode ++ (bits (countWidth v mode) count ++ (body mode cs ++ rest))
+
+  after-head : drop (headWidth v mode) segmentBits ≡ body mode cs ++ rest
+  unfolding headWidth
+  after-head =
+      sym (drop-drop (countWidth v mode) 4 segmentBits)
+      ∙ ap (drop (countWidth v mode)) (drop-front 4 mode (bits (countWidth v mode) count ++ (body mode cs ++ rest)))
+      ∙ drop-front (countWidth v mode) count (body mode cs ++ rest)
+
+  after-body : drop (headWidth v mode + bodyWidth mode count) segmentBits ≡ rest
+  after-body =
+      sym (drop-drop (bodyWidth mode count) (headWidth v mode) segmentBits)
+      ∙ ap (drop (bodyWidth mode count)) after-head
+      ∙ drop-at (body mode cs) rest (bodyWidth mode count) (body-length mode cs k ∙ ap (bodyWidth mode) l)
+
+  pub segment-written : Whole v mode count segmentBits
+  unfolding headWidth
+  segment-written =
+      let w = body-written mode cs rest m b k in
+      record {
+        modes = number-front 4 mode _ (known-small mode k);
+        counts = ap (λ (bs : List ℕ). number (take (countWidth v mode) bs)) (drop-front 4 mode _) ∙ number-front (countWidth v mode) count _ c;
+        knows = k;
+        holds =
+            simp (length-append, length-bits) (omega (arith, body-length mode cs k ∙ ap (bodyWidth mode) l));
+        ranged = ap (inRange mode count) after-head ∙ ap (λ (n : ℕ). inRange mode n (body mode cs ++ rest)) (sym l) ∙ w .1;
+      }
+
+  pub characters-written : characters mode count (drop (headWidth v mode) segmentBits) ≡ cs
+  characters-written =
+      ap (characters mode count) after-head ∙ ap (λ (n : ℕ). characters mode n (body mode cs ++ rest)) (sym l) ∙ body-written mode cs rest m b k .0
+
+  pub parse-written : (fuel : ℕ) → parse (suc fuel) v segmentBits ≡ inFront mode count cs (parse fuel v rest)
+  parse-written fuel =
+      parse-segment fuel v segmentBits mode count (whole-segment v mode count segmentBits segment-written)
+      ∙ ap₂ (λ (x y : List ℕ). inFront mode count x (parse fuel v y)) characters-written after-body
