@@ -1,62 +1,74 @@
--- `field::mul` meets its contract. The loop's invariant: `product` is a times the bits of b from the i-th up.
+-- `field::mul` meets its contract. After the step of bit j the product is a times the bits of b from the j-th up.
 -- Assumes nothing.
-use mathlib.Core.Path.{_≡_}
-use Prim.Native.Nat.{ℕ, suc, _+_, _-_, _*_, _/_, _%_, _^_, _≤_, _<_}
-use native.Mathlib.Nat.{div-one}
-use native.Mathlib.Omega.{arith}
-use lib.Arith.{le-zero}
-use lib.Bits.{bitXor}
+use mathlib.Core.Path.{_≡_, _∙_, sym}
+use Prim.Native.Nat.{ℕ, suc, _+_, _*_, _/_, _%_, _^_}
+use lib.Bits.{bitXor, xor-zero-r}
 use lib.Pow.{shr-shr}
-use borrow.Author.Needs.{needs}
 use Rattle.field.specs.Field.{dblN, mulBits, mulN}
-use Rattle.basics.proofs.Xor.{digit}
-use Rattle.field.proofs.Laws.{digit-mul-lt}
+use borrow.Author.Needs.{needs}
 use Rattle.field.proofs.mul.Statement.{statement}
 use Rattle.field.proofs.mul.Tie as tie
 
-abbrev Inv-loop : tie.InvT-loop
-Inv-loop a b product₀ i₀ product i = (i ≤ 8) × (product ≡ mulBits (8 - i) a (b / 2 ^ i))
+top : (a b : ℕ) {p : ℕ} → p ≡ b / 2 ^ 7 % 2 * a → p ≡ mulBits 1 a (b / 2 ^ 7)
+unfolding mulBits dblN
+top a b e = e ∙ sym (xor-zero-r (b / 2 ^ 7 % 2 * a))
 
-abbrev μ-loop : tie.MeasureT-loop
-μ-loop a b product₀ i₀ product i = i
-
-turn : (a b i product d : ℕ) → 0 < i → i ≤ 8 → d ≡ dblN product → product ≡ mulBits (8 - i) a (b / 2 ^ i)
-    → bitXor (b / 2 ^ (i - 1) % 2 * a) d ≡ mulBits (8 - (i - 1)) a (b / 2 ^ (i - 1))
+more : (k j a b : ℕ) {p r : ℕ} → p ≡ mulBits k a (b / 2 ^ (j + 1)) → r ≡ bitXor (b / 2 ^ j % 2 * a) (dblN p) → r ≡ mulBits (suc k) a (b / 2 ^ j)
 unfolding mulBits
-turn a b i product d h l e p =
-    let more : 8 - (i - 1) ≡ suc (8 - i) = omega arith in
-    let back : i - 1 + 1 ≡ i = omega arith in
-    rw (more, e, p, shr-shr b (i - 1) 1, back)
+more k j a b e f = f ∙ rw (e, shr-shr b j 1)
 
-loop-holds : tie.Need-loop-holds Inv-loop μ-loop
-unfolding mulBits
-loop-holds c = search needs
+last : (a b : ℕ) {p r : ℕ} → p ≡ mulBits 7 a (b / 2) → r ≡ bitXor (b % 2 * a) (dblN p) → r ≡ mulN a b
+unfolding mulBits mulN
+last a b e f = f ∙ rw e
 
-sub-i : tie.Need-sub-i Inv-loop μ-loop
-sub-i c = search needs
+pick-requires : tie.Need-pick-requires
+pick-requires c κs = search needs
 
-shr-product : tie.Need-shr-product Inv-loop μ-loop
-shr-product c = search needs
+step-requires : tie.Need-step-requires
+step-requires c κs = search needs
 
-mul-product : tie.Need-mul-product Inv-loop μ-loop
-mul-product c = record { fits = digit-mul-lt _ _ (digit _) (search needs) }
+step-requires-2 : tie.Need-step-requires-2
+step-requires-2 c κs = search needs
 
-dbl-requires : tie.Need-dbl-requires Inv-loop μ-loop
-dbl-requires c κs = search needs
+step-requires-3 : tie.Need-step-requires-3
+step-requires-3 c κs = search needs
 
-loop-less : tie.Need-loop-less Inv-loop μ-loop
-loop-less c = search needs
+step-requires-4 : tie.Need-step-requires-4
+step-requires-4 c κs = search needs
 
-loop-again : tie.Need-loop-again Inv-loop μ-loop
-loop-again c =
-    let l = c .before .before .loop in
-    (search needs, turn (c .before .before .before .args .a) (c .before .before .before .args .b) (l .i) (l .product) _ (search needs) (search needs) (c .dbl .ensures) (l .inv .1))
+step-requires-5 : tie.Need-step-requires-5
+step-requires-5 c κs = search needs
 
-returns : tie.Need-returns Inv-loop μ-loop
-unfolding mulN
-returns c = rw (le-zero (c .loop-test .left), div-one) at (c .before .loop .inv .1)
+step-requires-6 : tie.Need-step-requires-6
+step-requires-6 c κs = search needs
+
+step-requires-7 : tie.Need-step-requires-7
+step-requires-7 c κs = search needs
+
+returns : tie.Need-returns
+returns c =
+    let start = c .before .before .before .before .before .before .before .before in
+    let a : ℕ = start .args .a in
+    let b : ℕ = start .args .b in
+    let p₇ = top a b (c .before .before .before .before .before .before .before .pick .ensures) in
+    let p₆ = more 1 6 a b p₇ (c .before .before .before .before .before .before .step .ensures) in
+    let p₅ = more 2 5 a b p₆ (c .before .before .before .before .before .step2 .ensures) in
+    let p₄ = more 3 4 a b p₅ (c .before .before .before .before .step3 .ensures) in
+    let p₃ = more 4 3 a b p₄ (c .before .before .before .step4 .ensures) in
+    let p₂ = more 5 2 a b p₃ (c .before .before .step5 .ensures) in
+    let p₁ = more 6 1 a b p₂ (c .before .step6 .ensures) in
+    last a b p₁ (c .step7 .ensures)
 
 pub mul-spec : {M : Type 1} → statement M
 mul-spec =
     tie.close
-    (tie.spec Inv-loop μ-loop loop-holds sub-i shr-product mul-product dbl-requires loop-less loop-again returns)
+    (tie.spec
+    pick-requires
+    step-requires
+    step-requires-2
+    step-requires-3
+    step-requires-4
+    step-requires-5
+    step-requires-6
+    step-requires-7
+    returns)
