@@ -2,7 +2,7 @@
 -- Assumes nothing.
 use mathlib.Core.Path.{_≡_, refl, sym, ap, ap₂, _∙_}
 use mathlib.Core.Bool.{Bool, true, false, _&&_}
-use mathlib.Core.List.{List, [], _∷_, _++_, map, append-assoc, List·Memᴰ, List·Memᴰ·cases-cons, List·Memᴰ·not-nil}
+use mathlib.Core.List.{List, [], _∷_, _++_, map, append-assoc, append-nil, List·Memᴰ, List·Memᴰ·cases-cons, List·Memᴰ·not-nil}
 use mathlib.Core.Logic.{⊎-elim}
 use Prim.Native.Nat.{ℕ, zero, suc, _+_, _<_, _≤_}
 use native.Mathlib.Nat.{add-zero, add-suc, suc-add, zero-add, not-suc-le-zero, le-of-suc-le-suc}
@@ -96,6 +96,10 @@ module _ {A : Type 0} where
   unfolding joined
   joined-append [] ys = refl
   joined-append (x ∷ xs) ys = ap (λ (zs : List A). x ++ zs) (joined-append xs ys) ∙ sym (append-assoc x (joined xs) (joined ys))
+
+  pub joined-one : (xs : List A) → joined (xs ∷ []) ≡ xs
+  unfolding joined
+  joined-one xs = append-nil xs
 
 -- ---- bounds
 
