@@ -10,7 +10,7 @@ use native.Mathlib.Decide.{decLt}
 use native.Mathlib.Numerals.{add-one, one-add}
 use native.Mathlib.Omega.{arith}
 use lib.Bits.{bitXor, xor-zero-r}
-use lib.ListN.{length, take, drop, getD, set, replicate, length-append, length-replicate, getD-replicate, List·getD-append, List·getD-eq-default, List·getD-map}
+use lib.ListN.{length, take, drop, getD, set, replicate, length-append, length-replicate, List·getD-eq-default, List·getD-map}
 use lib.Seq.{ext-getD, getD-drop, getD-take, length-take-le, drop-cons, drop-length}
 use Rattle.basics.specs.Build.{build}
 use Rattle.basics.proofs.Build.{build-length, build-get}

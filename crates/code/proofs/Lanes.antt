@@ -4,8 +4,8 @@
 --     build-same                two lists that are built of equal entries
 -- Assumes nothing.
 use mathlib.Core.Path.{_≡_, refl, sym, ap, ap₂, _∙_}
-use mathlib.Core.List.{List, [], _∷_, _++_}
-use Prim.Native.Nat.{ℕ, zero, suc, _+_, _-_, _≤_, _<_}
+use mathlib.Core.List.{List, [], _∷_, _++_, append-nil}
+use Prim.Native.Nat.{ℕ, zero, suc, _+_, _-_, _<_}
 use native.Mathlib.Nat.{sub-zero}
 use native.Mathlib.Numerals.{add-one}
 use native.Mathlib.Omega.{arith}
@@ -39,3 +39,9 @@ copied-more s out j t hs ho = rw (add-one, take-suc-set, take-suc s j 0, t)
 
 pub copied-all : (s out : List ℕ) (j n : ℕ) → take j out ≡ take j s → length out ≡ n → j ≡ n → out ≡ take n s
 copied-all s out j n t h e = sym (take-all j out (omega arith)) ∙ t ∙ ap (λ (m : ℕ). take m s) e
+
+pub fill-all : (f : ℕ → ℕ) (m k : ℕ) (l : List ℕ) → l ≡ fill f m k → k ≡ m → l ≡ build f m
+unfolding fill
+fill-all f m k l e h =
+    let none : m - m ≡ 0 = omega arith in
+    e ∙ rw (h, none) (append-nil (build f m))

@@ -1,2 +1,3 @@
-pub mod Lanes
 pub mod Division
+pub mod Lanes
+pub mod Value

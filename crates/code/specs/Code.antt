@@ -3,10 +3,11 @@
 use mathlib.Core.Path.{_≡_}
 use mathlib.Core.Bool.{not, _&&_}
 use mathlib.Core.List.{List, [], _∷_, _++_, map}
-use Prim.Native.Nat.{ℕ, zero, suc, _+_, _*_, _≤_, _<_}
+use Prim.Native.Nat.{ℕ, zero, suc, _+_, _-_, _*_, _≤_, _<_}
 use lib.Bits.{bitXor}
 use lib.Dec.{eqb}
 use lib.ListN.{length, getD, replicate}
+use Rattle.basics.specs.Build.{build}
 use Rattle.basics.specs.Sums.{tally}
 use Rattle.field.specs.Field.{mulN, powN}
 
@@ -47,6 +48,10 @@ checks n held = divided (lower (generator n)) (length held) (held ++ replicate n
 pub record Codeword (n : ℕ) (c : List ℕ) : Type 0 where
   pub bytes : (j : ℕ) → j < length c → getD c j 0 < 256
   pub zeros : (i : ℕ) → i < n → value (powN i) c ≡ 0
+
+-- a word's values at those α^i, and zeros up to 32 entries
+unfoldable pub syndromesOf : (n : ℕ) (word : List ℕ) → List ℕ
+syndromesOf n word = build (λ i. value (powN i) word) n ++ replicate (32 - n) 0
 
 -- "e counts unreadable codewords": the flag of a readable one is 0
 unfoldable pub unreadable : (flags : List ℕ) → ℕ

@@ -18,3 +18,7 @@ rooted g a (suc k) = bitXor (getD g (suc k) 0) (mulN a (getD g k 0))
 -- coefficient k of what is left of x times r and d after one step of the division by g
 unfoldable pub reduced : (r g : List ℕ) (d k : ℕ) → ℕ
 reduced r g d k = bitXor (getD r (suc k) 0) (mulN (bitXor d (getD r 0 0)) (getD g (suc k) 0))
+
+-- value k times its power, and the next coefficient c
+unfoldable pub hornered : (s p : List ℕ) (c k : ℕ) → ℕ
+hornered s p c k = bitXor (mulN (getD s k 0) (getD p k 0)) c

@@ -1,4 +1,4 @@
-// The code of a block: the checks of data, written into a lent part.
+// The code of a block: the checks of data, written into a lent part, and the values of a word at the powers of 2.
 ghost use mathlib.Core.Path.{_≡_};
 ghost use mathlib.Core.List.{_++_};
 ghost use Prim.Native.Nat.{suc, _+_, _-_, _≤_, _<_};
@@ -6,8 +6,8 @@ ghost use lib.Bits.{bitXor};
 ghost use lib.ListN.{length, take, getD, replicate};
 ghost use Rattle.basics.specs.Build.{build};
 ghost use Rattle.field.specs.Field.{mulN, powN};
-ghost use Rattle.code.specs.Code.{checks, generator as generatorOf};
-ghost use Rattle.code.specs.Lanes.{rooted, reduced, padded};
+ghost use Rattle.code.specs.Code.{value, checks, syndromesOf, generator as generatorOf};
+ghost use Rattle.code.specs.Lanes.{rooted, reduced, padded, hornered};
 
 // The product of a polynomial and (x − a).
 fn times_root(g: [u8; 33], a: u8) -> [u8; 33]
@@ -81,4 +81,62 @@ pub fn checks_into(held: &[u8], out: &mut [u8])
         out[j] = r[j];
         j += 1;
     }
+}
+
+// 1, 2, 4 and so on: the 32 first powers of 2 in the field.
+fn powers() -> [u8; 32]
+    ensures { λ r. ⌜ r ≡ build powN 32 ⌝ }
+{
+    let mut p: [u8; 32] = [0; 32];
+    let mut power: u8 = 1;
+    let mut k: usize = 0;
+    while k < 32 {
+        p[k] = power;
+        power = field::dbl(power);
+        k += 1;
+    }
+    p
+}
+
+// Each value times its power, and the next codeword c added to each.
+fn horner(s: [u8; 32], p: [u8; 32], c: u8) -> [u8; 32]
+    ensures { λ r. ⌜ r ≡ build (hornered s p c) 32 ⌝ }
+{
+    let mut r: [u8; 32] = [0; 32];
+    let mut k: usize = 0;
+    while k < 32 {
+        r[k] = field::mul(s[k], p[k]) ^ c;
+        k += 1;
+    }
+    r
+}
+
+// The values of the word at the 32 first powers of 2.
+fn values(word: &[u8]) -> [u8; 32]
+    ensures { λ r. ⌜ r ≡ build (λ i. value (powN i) (now (word .entry))) 32 ⌝ }
+{
+    let p = powers();
+    let mut s: [u8; 32] = [0; 32];
+    let mut j: usize = 0;
+    while j < word.len() {
+        let next = horner(s, p, word[j]);
+        s = next;
+        j += 1;
+    }
+    s
+}
+
+// The n syndromes of the word, and zeros behind them.
+pub fn syndromes(word: &[u8], n: usize) -> [u8; 32]
+    requires { ⌜ n ≤ 32 ⌝ }
+    ensures { λ r. ⌜ r ≡ syndromesOf n (now (word .entry)) ⌝ }
+{
+    let all = values(word);
+    let mut r: [u8; 32] = [0; 32];
+    let mut i: usize = 0;
+    while i < n {
+        r[i] = all[i];
+        i += 1;
+    }
+    r
 }
