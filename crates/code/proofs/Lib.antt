@@ -1,3 +1,4 @@
+pub mod Bridge
 pub mod Division
 pub mod Lanes
 pub mod Value
