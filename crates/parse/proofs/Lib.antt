@@ -1,3 +1,4 @@
 pub mod Body
+pub mod Encode
 pub mod Front
 pub mod Written

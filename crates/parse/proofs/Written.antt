@@ -14,6 +14,7 @@ use lib.Seq.{take-at, drop-at, length-take-le, getD-take, getD-drop, drop-drop}
 use borrow.Author.Tests.{leb-true, lt-ltb, le-ltb, eq-eqb}
 use Rattle.basics.specs.Bits.{bits, byteBits, number, bytes}
 use Rattle.basics.specs.Lists.{each, AtMost}
+use Rattle.cursor.proofs.Bits.{at-most-take, at-most-drop}
 use Rattle.basics.proofs.Bits.{length-bits, length-byteBits, byteBits-append}
 use Rattle.tables.specs.Tables.{countWidth, dataCount, Lawful}
 use Rattle.stream.specs.Stream
@@ -90,3 +91,32 @@ module _ (v mode count : ℕ) (cs rest : List ℕ) (k : known mode ≡ true) (c 
   parse-written fuel =
       parse-segment fuel v segmentBits mode count (whole-segment v mode count segmentBits segment-written)
       ∙ ap₂ (λ (x y : List ℕ). inFront mode count x (parse fuel v y)) characters-written after-body
+
+-- ---- all segments
+
+-- each count has room in its field
+abbrev pub CountsFit : (v : ℕ) → List ℕ → Type 0
+CountsFit v [] = Unit {0}
+CountsFit v (mode ∷ []) = Unit {0}
+CountsFit v (mode ∷ count ∷ list) = (count < 2 ^ countWidth v mode) × CountsFit v list
+
+pub segments-read : (fuel v : ℕ) (list payload rest : List ℕ) → lawfulList list ≡ true → counts list ≡ length payload
+    → lawfulCharacters list payload ≡ true → AtMost 255 payload → CountsFit v list → front v rest ≡ End → length list ≤ fuel
+    → parse fuel v (segments v list payload ++ rest) ≡ Message payload list
+unfolding segments lawfulList counts lawfulCharacters
+segments-read fuel v [] [] rest m s c b f e h = parse-end fuel v rest e
+segments-read fuel v [] (x ∷ xs) rest m s c b f e h = absurd (omega arith)
+segments-read fuel v (mode ∷ []) payload rest m s c b f e h = absurd (let z : _≡_ {A = ℕ} 0 1 = cc in omega arith)
+segments-read zero v (mode ∷ count ∷ list) payload rest m s c b f e h = absurd (not-suc-le-zero h)
+segments-read (suc fuel) v (mode ∷ count ∷ list) payload rest m s c b f e h =
+    let cs : List ℕ = take count payload in
+    let later : List ℕ = drop count payload in
+    let k : known mode ≡ true = both-left (known mode) (lawfulList list) m in
+    let l : length cs ≡ count = length-take-le count payload (omega arith) in
+    simp append-assoc
+    (parse-written v mode count cs (segments v list later ++ rest) k (f .0) l (both-left (each (inMode mode) cs) (lawfulCharacters list later) c)
+    (at-most-take 255 count payload b) fuel
+    ∙ ap (inFront mode count cs)
+    (segments-read fuel v list later rest (both-right (known mode) (lawfulList list) m) (rw (length-drop count payload) (omega arith))
+    (both-right (each (inMode mode) cs) (lawfulCharacters list later) c) (at-most-drop 255 count payload b) (f .1) e (omega arith))
+    ∙ ap (λ (p : List ℕ). Message p (mode ∷ count ∷ list)) (take-append-drop count payload))
