@@ -1,4 +1,6 @@
 pub mod Body
 pub mod Encode
 pub mod Front
+pub mod Lawful
+pub mod Load
 pub mod Written
