@@ -49,6 +49,10 @@ pub record Codeword (n : ℕ) (c : List ℕ) : Type 0 where
   pub bytes : (j : ℕ) → j < length c → getD c j 0 < 256
   pub zeros : (i : ℕ) → i < n → value (powN i) c ≡ 0
 
+-- how many places of two words differ
+unfoldable pub apartAt : (a b : List ℕ) → ℕ
+apartAt a b = tally (length a) (λ j. not (eqb (getD a j 0) (getD b j 0)))
+
 -- a word's values at those α^i, and zeros up to 32 entries
 unfoldable pub syndromesOf : (n : ℕ) (word : List ℕ) → List ℕ
 syndromesOf n word = build (λ i. value (powN i) word) n ++ replicate (32 - n) 0
