@@ -1,6 +1,6 @@
 -- The penalty of a finished symbol, and the choice of the mask.
 -- Assumes nothing.
-use mathlib.Core.Bool.{cond, _&&_, _||_}
+use mathlib.Core.Bool.{Bool, cond, _&&_, _||_}
 use mathlib.Core.List.{List, [], _∷_, map}
 use Prim.Native.Nat.{ℕ, _+_, _-_, _*_, _/_}
 use lib.Dec.{leb, ltb, eqb}
@@ -33,10 +33,14 @@ unfoldable pub patterns : List (List ℕ)
 patterns =
     (1 ∷ 0 ∷ 1 ∷ 1 ∷ 1 ∷ 0 ∷ 1 ∷ 0 ∷ 0 ∷ 0 ∷ 0 ∷ []) ∷ (0 ∷ 0 ∷ 0 ∷ 0 ∷ 1 ∷ 0 ∷ 1 ∷ 1 ∷ 1 ∷ 0 ∷ 1 ∷ []) ∷ []
 
+-- a window is one pattern or the other
+unfoldable pub finderLike : List ℕ → Bool
+finderLike w = same w (getD patterns 0 []) || same w (getD patterns 1 [])
+
 -- "Each 11-module window in a row or column .. : 40"
 unfoldable pub windows : List ℕ → ℕ
 windows [] = 0
-windows (x ∷ xs) = let w = take 11 (x ∷ xs) in cond (same w (getD patterns 0 []) || same w (getD patterns 1 [])) 40 0 + windows xs
+windows (x ∷ xs) = cond (finderLike (take 11 (x ∷ xs))) 40 0 + windows xs
 
 -- both over a list of lines
 unfoldable pub lines : List (List ℕ) → ℕ

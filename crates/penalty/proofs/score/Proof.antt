@@ -1,0 +1,82 @@
+-- `penalty::score` meets its contract: its parts are those of the definition, and their bounds keep the sum in range.
+-- Assumes nothing.
+use mathlib.Core.Path.{_≡_, refl, sym, ap, ap₂, _∙_}
+use Prim.Native.Nat.{ℕ, suc, _+_, _*_, _-_, _<_, _≤_}
+use native.Mathlib.Nat.{mul-le-mul}
+use native.Mathlib.Omega.{arith}
+use Rattle.penalty.specs.Penalty.{score, lines, share}
+use Rattle.penalty.proofs.Bound.{lines-small, squares-small, dark-le, share-le}
+use Rattle.penalty.proofs.Lines.{rows-lines, columns-lines}
+use borrow.Author.Needs.{needs}
+use Rattle.penalty.proofs.score.Statement.{statement}
+use Rattle.penalty.proofs.score.Tie as tie
+
+area : (s : ℕ) → s ≤ 57 → s * s ≤ 3249
+area s h = mul-le-mul h h
+
+parts : (c : tie.After-squares-score) → (c .before .before .lines-score .result ≤ 110295) × ((c .before .lines-score2 .result ≤ 110295) × (c .squares-score .result ≤ 9408))
+parts c =
+    let a = c .before .before .before .before .args in
+    let h : a .s ≤ 57 = omega arith in (
+      rw (c .before .before .lines-score .ensures) (lines-small _ _ _ _ _ h),
+      (rw (c .before .lines-score2 .ensures) (lines-small _ _ _ _ _ h), rw (c .squares-score .ensures) (squares-small _ _ h)),
+    )
+
+count : (c : tie.After-dark) → c .dark .result ≤ c .before .before .before .before .before .args .s * c .before .before .before .before .before .args .s
+count c =
+    let p = c .before .before .before .before .before .pre in
+    rw (c .dark .ensures) (omega (arith, dark-le (c .before .before .before .before .before .args .m .now) (p .1 .1 .1), p .1 .1 .0))
+
+lines-score-requires : tie.Need-lines-score-requires
+lines-score-requires c κs = search needs
+
+lines-score-requires-2 : tie.Need-lines-score-requires-2
+lines-score-requires-2 c κs = search needs
+
+squares-score-requires : tie.Need-squares-score-requires
+squares-score-requires c κs = search needs
+
+add-result : tie.Need-add-result
+add-result c = omega (arith, parts c)
+
+add-result-2 : tie.Need-add-result-2
+add-result-2 c = omega (arith, parts c)
+
+cast-share-score : tie.Need-cast-share-score
+cast-share-score c = search needs
+
+dark-requires : tie.Need-dark-requires
+dark-requires c κs = (omega (arith, area (c .before .before .before .before .args .s) (omega arith)), c .before .before .before .before .pre .1 .1 .1)
+
+share-score-requires : tie.Need-share-score-requires
+share-score-requires c κs = omega (arith, count c, area (c .before .before .before .before .before .args .s) (omega arith))
+
+add-result-3 : tie.Need-add-result-3
+add-result-3 c = omega (arith, parts (c .before .before), c .share-score .ensures, share-le (c .before .before .before .before .before .before .args .s) (c .before .dark .result) (count (c .before)))
+
+returns : tie.Need-returns
+unfolding score
+returns c =
+    let a = c .before .before .before .before .before .before .args in
+    let e = c .before .before .before .before .before .before .pre .1 .1 .0 in
+    ap₂ _+_
+    (ap₂ _+_
+    (ap₂ _+_ (c .before .before .before .before .lines-score .ensures ∙ ap lines (sym (rows-lines (a .s) (a .m .now) e)))
+    (c .before .before .before .lines-score2 .ensures ∙ ap lines (sym (columns-lines (a .s) (a .m .now) e))))
+    (c .before .before .squares-score .ensures))
+    (c .share-score .ensures ∙ ap (share (a .s)) (c .before .dark .ensures))
+
+pub score-spec : {M : Type 1} → statement M
+score-spec =
+    tie.close
+    (tie.spec
+    lines-score-requires
+    lines-score-requires-2
+    squares-score-requires
+    add-result
+    add-result-2
+    cast-share-score
+    dark-requires
+    share-score-requires
+    add-result-3
+    returns)
