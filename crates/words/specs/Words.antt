@@ -19,6 +19,13 @@ formatWord d = bitXor (d * 2 ^ 10 + reduced 10 0x537 5 (d * 2 ^ 10)) 0x5412
 unfoldable pub formatBits : (level mask : ℕ) → ℕ
 formatBits level mask = getD (1 ∷ 0 ∷ 3 ∷ 2 ∷ []) level 0 * 8 + mask
 
+-- and back: the level and the mask of five bits
+unfoldable pub levelOf : ℕ → ℕ
+levelOf bits = getD (1 ∷ 0 ∷ 3 ∷ 2 ∷ []) (bits / 8) 0
+
+unfoldable pub maskOf : ℕ → ℕ
+maskOf bits = bits % 8
+
 -- "Version word ..: 6 bits and 12 check bits by hex 1F25"
 unfoldable pub versionWord : ℕ → ℕ
 versionWord v = v * 2 ^ 12 + reduced 12 0x1F25 6 (v * 2 ^ 12)
