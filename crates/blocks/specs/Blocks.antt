@@ -1,12 +1,13 @@
 -- The cut into blocks, and the order in which their codewords are sent.
 -- Assumes nothing.
-use mathlib.Core.Bool.{cond}
+use mathlib.Core.Bool.{true, cond}
 use mathlib.Core.List.{List, [], _++_, map}
 use Prim.Native.Nat.{ℕ, _+_, _-_, _*_}
 use lib.Dec.{ltb}
-use lib.ListN.{getD, take, drop}
+use lib.ListN.{length, getD, take, drop}
 use Rattle.basics.specs.Lists.{upTo, keep, joined}
 use Rattle.basics.specs.Sums.{sum}
+use Rattle.basics.specs.Walk.{walked}
 use Rattle.tables.specs.Tables.{blockCount, checkCount, dataCount, shortLength, shortBlocks, blockData, blockStart, blockLength}
 use Rattle.code.specs.Code.{checks}
 
@@ -47,6 +48,10 @@ sentPlace v level b p =
     let B = blockCount v level in
     let row = cond (ltb p (shortLength v level)) (p * B + b) (p * B + (b - shortBlocks v level)) in
     cond (ltb p (blockData v level b)) row (dataCount v level + (p - blockData v level b) * B + b)
+
+-- a list with codewords put at their places
+unfoldable pub dealt : (place : ℕ → ℕ) (codewords out : List ℕ) → List ℕ
+dealt place codewords out = walked place (λ k. true) (λ k. getD codewords k 0) (length codewords) out
 
 -- ---- and back: what was received, by its place in the sent order, cut into blocks again
 

@@ -7,10 +7,11 @@ use Prim.Native.Nat.{ℕ, zero, suc, _+_, _-_, _<_, _≤_}
 use native.Mathlib.Nat.{add-sub-cancel-left}
 use native.Mathlib.Omega.{arith}
 use lib.ListN.{length, take, drop, getD, replicate, length-append, length-drop, length-replicate}
-use lib.Seq.{length-take-le, take-at, take-all}
+use lib.Seq.{length-take-le, take-take, take-at, take-all}
 use Rattle.basics.specs.Lists.{upTo, joined}
 use Rattle.basics.specs.Sums.{sum}
 use Rattle.basics.proofs.Lists.{getD-map, getD-map-upTo, map-upTo-same, list-upTo, length-map, length-map-upTo}
+use Rattle.basics.proofs.Parts.{the-part}
 use Rattle.basics.proofs.Sums.{sum-mono}
 use Rattle.tables.specs.Tables.{total, checkCount, blockCount, dataCount, blockData, blockStart, blockLength, Lawful}
 use Rattle.tables.proofs.Rules.{data-sum, length-sum, block-end}
@@ -46,9 +47,20 @@ module _ (v level : ℕ) where
   unfolding gathered
   length-gathered at b = length-map-upTo (λ p. at (sentPlace v level b p)) (blockLength v level b)
 
+  pub gathered-long : (at : ℕ → ℕ) (b : ℕ) (ys : List ℕ) → ys ≡ gathered v level at b → length ys ≡ blockLength v level b
+  gathered-long at b ys e = rw e (length-gathered at b)
+
   pub offset-next : (b : ℕ) → blockOffset v level (suc b) ≡ blockOffset v level b + blockLength v level b
   unfolding blockOffset sum
   offset-next b = refl
+
+  pub offset-sum : (b a : ℕ) → a ≡ blockOffset v level b → a ≡ sum b (blockLength v level)
+  unfolding blockOffset
+  offset-sum b a e = e
+
+  pub start-sum : (b a : ℕ) → a ≡ blockStart v level b → a ≡ sum b (blockData v level)
+  unfolding blockStart
+  start-sum b a e = e
 
   -- block b starts at its offset
   pub block-of-joined : (f : ℕ → List ℕ) → ((b : ℕ) → b < blockCount v level → length (f b) ≡ blockLength v level b) → (b : ℕ) → b < blockCount v level
@@ -60,6 +72,14 @@ module _ (v level : ℕ) where
   unfolding gatheredAll
   block-of-gathered at b h = block-of-joined (gathered v level at) (λ b l. length-gathered at b) b h
 
+  -- the part of the buffer that is block b's data
+  pub the-data : (blocks : List ℕ) (b w n : ℕ) → w ≡ blockOffset v level b → n ≡ blockData v level b
+      → take (w + n - w) (drop w blocks) ≡ take (blockData v level b) (blockOf v level blocks b)
+  unfolding blockOf blockLength
+  the-data blocks b w n e h =
+      the-part blocks w n ∙ rw (e, h)
+      (sym (take-take (blockData v level b) (blockData v level b + checkCount v level) (drop (blockOffset v level b) blocks) (omega arith)))
+
   -- the data goes by the blocks that there are
   pub data-same : (f g : ℕ → List ℕ) → ((b : ℕ) → b < blockCount v level → f b ≡ g b) → dataOf v level f ≡ dataOf v level g
   unfolding dataOf
@@ -69,6 +89,18 @@ module _ (v level : ℕ) (lawful : Lawful v level) where
   pub offset-end : (b : ℕ) → b < blockCount v level → blockOffset v level b + blockLength v level b ≤ total v
   unfolding blockOffset sum
   offset-end b h = omega (arith, sum-mono (suc b) (blockCount v level) (blockLength v level) h, length-sum v level lawful)
+
+  -- ---- the data of blocks that stand one after the other
+
+  module _ (blocks : List ℕ) (long : length blocks ≡ total v) where
+    pub length-data : (b : ℕ) → b < blockCount v level → length (take (blockData v level b) (blockOf v level blocks b)) ≡ blockData v level b
+    unfolding blockOf blockLength
+    length-data b h =
+        rw (take-take (blockData v level b) (blockData v level b + checkCount v level) (drop (blockOffset v level b) blocks) (omega arith))
+        (length-take-le (blockData v level b) (drop (blockOffset v level b) blocks) (rw length-drop (omega (arith, offset-end b h))))
+
+    pub data-long : (b : ℕ) → b < blockCount v level → (ys : List ℕ) → ys ≡ take (blockData v level b) (blockOf v level blocks b) → length ys ≡ blockData v level b
+    data-long b h ys e = rw e (length-data b h)
 
   pub length-gathered-all : (at : ℕ → ℕ) → length (gatheredAll v level at) ≡ total v
   unfolding gatheredAll
