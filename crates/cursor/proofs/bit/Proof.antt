@@ -1,12 +1,12 @@
 -- `cursor::bit` meets its contract.
 -- Assumes nothing.
-use mathlib.Core.Path.{_≡_, sym, ap, _∙_}
+use mathlib.Core.Path.{sym, ap, _∙_}
+use Prim.Native.Nat.{ℕ, _/_, _%_}
 use native.Mathlib.Omega.{arith}
 use lib.ListN.{getD}
-use Prim.Native.Nat.{ℕ, _+_, _*_, _/_, _%_}
+use borrow.Author.Needs.{needs}
 use Rattle.basics.specs.Bits.{byteBits}
 use Rattle.basics.proofs.Bits.{getD-byteBits}
-use borrow.Author.Needs.{needs}
 use Rattle.cursor.proofs.bit.Statement.{statement}
 use Rattle.cursor.proofs.bit.Tie as tie
 

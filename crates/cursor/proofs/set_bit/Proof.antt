@@ -1,9 +1,8 @@
 -- `cursor::set_bit` meets its contract. Each answer is a computed test over all bytes.
 -- Assumes nothing.
-use mathlib.Core.Path.{_≡_}
 use native.Mathlib.Nat.{lt-of-le-of-lt}
-use Rattle.cursor.proofs.Bytes.{some, less, fits, small, stored}
 use borrow.Author.Needs.{needs}
+use Rattle.cursor.proofs.Bytes.{some, less, fits, small, stored}
 use Rattle.cursor.proofs.set_bit.Statement.{statement}
 use Rattle.cursor.proofs.set_bit.Tie as tie
 
