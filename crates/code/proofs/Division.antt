@@ -89,7 +89,7 @@ unfolding generator
 length-generator zero = refl
 length-generator (suc n) = length-plus (generator n ++ (0 ∷ [])) (0 ∷ map (mulN (powN n)) (generator n)) ∙ length-append (generator n) (0 ∷ []) ∙ add-one (length (generator n)) ∙ ap suc (length-generator n)
 
-scaled-get : (c : ℕ) (l : List ℕ) (k : ℕ) → getD (map (mulN c) l) k 0 ≡ mulN c (getD l k 0)
+pub scaled-get : (c : ℕ) (l : List ℕ) (k : ℕ) → getD (map (mulN c) l) k 0 ≡ mulN c (getD l k 0)
 scaled-get c l k = ap (getD (map (mulN c) l) k) (sym (mul-zero c)) ∙ List·getD-map (mulN c) l k 0
 
 -- one more root, entry by entry, of any polynomial g

@@ -1,6 +1,10 @@
 pub mod Bridge
+pub mod Codewords
 pub mod Distance
 pub mod Division
+pub mod Evaluate
+pub mod Examples
 pub mod Lanes
 pub mod Places
+pub mod Reached
 pub mod Value
