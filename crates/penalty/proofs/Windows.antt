@@ -13,7 +13,7 @@ use lib.ListN.{length, getD, take, length-take}
 use Rattle.basics.specs.Lists.{same}
 use Rattle.penalty.specs.Penalty.{patterns, finderLike, windows}
 use Rattle.penalty.specs.Lines.{line, windowAt}
-use Rattle.penalty.proofs.Lines.{line-cons, take-line}
+use Rattle.penalty.proofs.Lines.{line-cons, take-line, getD-line}
 
 and-false : (a : Bool) → a && false ≡ false
 and-false true = refl
@@ -74,3 +74,11 @@ windows-line m start stride n h =
 pub window-le : (m : List ℕ) (start stride : ℕ) → windowAt m start stride ≤ 40
 unfolding windowAt
 window-le m start stride = forty (finderLike (line m start stride 11))
+
+-- a window whose module k is not the v that both patterns have there adds nothing
+pub window-off : (m : List ℕ) (start stride k v : ℕ) → k < 11 → getD (getD patterns 0 []) k 0 ≡ v → getD (getD patterns 1 []) k 0 ≡ v
+    → (getD m (start + k * stride) 0 ≡ v → ⊥) → windowAt m start stride ≡ 0
+unfolding windowAt
+window-off m start stride k v h a b n =
+    let e = getD-line m start stride 11 k h in
+    rw (not-like (line m start stride 11) k (λ p. n (sym e ∙ p ∙ a)) (λ p. n (sym e ∙ p ∙ b)))

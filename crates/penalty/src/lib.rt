@@ -85,14 +85,11 @@ fn window(m: &[u8], start: usize, stride: usize) -> [u8; 11]
     w
 }
 
-// What the window at start adds. In both patterns modules 4 and 6 are dark, 5 and 9 light: a window that differs there is neither.
+// What the window at start adds. In both patterns modules 4 and 6 are dark and 9 is light: a window that differs there is neither.
 fn window_score(m: &[u8], start: usize, stride: usize) -> u32
     requires { ⌜ (stride ≤ 64) × (start + 10 * stride < length (now m)) ⌝ }
     ensures { λ r. ⌜ r ≡ windowAt (now (m .entry)) start stride ⌝ }
 {
-    if m[start + 5 * stride] != 0 {
-        return 0;
-    }
     if m[start + 4 * stride] != 1 {
         return 0;
     }
@@ -108,16 +105,18 @@ fn window_score(m: &[u8], start: usize, stride: usize) -> u32
     0
 }
 
-// What the windows of a line add.
+// What the windows of a line add. In both patterns module 5 is light.
 fn line_windows(m: &[u8], start: usize, stride: usize, n: usize) -> u32
-    requires { ⌜ (stride ≤ 64) × ((n ≤ 64) × (start + n * stride < length (now m) + stride)) ⌝ }
+    requires { ⌜ (stride ≤ 64) × ((10 ≤ n) × ((n ≤ 64) × (start + n * stride < length (now m) + stride))) ⌝ }
     ensures { λ r. ⌜ r ≡ paper.windows (line (now (m .entry)) start stride n) ⌝ }
 {
     let mut score: u32 = 0;
     let mut at = start;
-    let mut left = n;
-    while 11 <= left {
-        score += window_score(m, at, stride);
+    let mut left = n - 10;
+    while 0 < left {
+        if m[at + 5 * stride] == 0 {
+            score += window_score(m, at, stride);
+        }
         at += stride;
         left -= 1;
     }
@@ -126,7 +125,7 @@ fn line_windows(m: &[u8], start: usize, stride: usize, n: usize) -> u32
 
 // What n lines of n modules add, which start at 0, step, 2·step, ..
 fn lines_score(m: &[u8], step: usize, stride: usize, n: usize) -> u32
-    requires { ⌜ (stride ≤ 64) × ((step ≤ 64) × ((n ≤ 64) × (n * step + n * stride < length (now m) + stride + step))) ⌝ }
+    requires { ⌜ (stride ≤ 64) × ((step ≤ 64) × ((10 ≤ n) × ((n ≤ 64) × (n * step + n * stride < length (now m) + stride + step)))) ⌝ }
     ensures { λ r. ⌜ r ≡ paper.lines (linesFrom (now (m .entry)) 0 step stride n n) ⌝ }
 {
     let mut score: u32 = 0;

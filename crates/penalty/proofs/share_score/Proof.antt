@@ -1,7 +1,7 @@
 -- `penalty::share_score` meets its contract.
 -- Assumes nothing.
 use mathlib.Core.Path.{_≡_, refl, sym, ap, _∙_}
-use Prim.Native.Nat.{ℕ, suc, _+_, _*_, _-_, _/_, _<_, _≤_}
+use Prim.Native.Nat.{ℕ, suc, _+_, _*_, _-_, _/_, _^_, _<_, _≤_}
 use native.Mathlib.Nat.{mul-le-mul, mul-pos, div-le-self, mul-comm}
 use native.Mathlib.Omega.{arith}
 use Rattle.basics.specs.Sums.{apart}
@@ -12,6 +12,9 @@ use Rattle.penalty.proofs.share_score.Tie as tie
 
 area : (s : ℕ) → s ≤ 64 → s * s ≤ 4096
 area s h = mul-le-mul h h
+
+tens : (x a : ℕ) → x ≤ 100000 → x / a * 10 < 2 ^ 32
+tens x a h = omega (arith, div-le-self x a)
 
 mul-area : tie.Need-mul-area
 mul-area c = omega (arith, area (c .args .s) (omega arith))
@@ -35,7 +38,7 @@ div-result : tie.Need-div-result
 div-result c = mul-pos (omega arith) (omega arith)
 
 mul-result-3 : tie.Need-mul-result-3
-mul-result-3 c = omega (arith, div-le-self (20 * c .before .args .k - 10 * (c .before .args .s * c .before .args .s)) (c .before .args .s * c .before .args .s))
+mul-result-3 c = record { fits = tens _ _ (omega (arith, area (c .before .args .s) (omega arith))) }
 
 returns : tie.Need-returns
 unfolding share
@@ -57,7 +60,7 @@ div-result-2 : tie.Need-div-result-2
 div-result-2 c = search needs
 
 mul-result-6 : tie.Need-mul-result-6
-mul-result-6 c = omega (arith, area (c .before .args .s) (omega arith), div-le-self (10 * (c .before .args .s * c .before .args .s) - 20 * c .before .args .k) (c .before .args .s * c .before .args .s))
+mul-result-6 c = record { fits = tens _ _ (omega (arith, area (c .before .args .s) (omega arith))) }
 
 returns-2 : tie.Need-returns-2
 unfolding share

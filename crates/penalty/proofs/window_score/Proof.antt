@@ -1,25 +1,13 @@
 -- `penalty::window_score` meets its contract. A test that fails rules both patterns out.
 -- Assumes nothing.
 use mathlib.Core.Path.{_≡_, refl, sym, ap, _∙_}
-use mathlib.Core.List.{List, []}
-use Prim.Native.Nat.{ℕ, _+_, _*_, _<_}
 use native.Mathlib.Omega.{arith}
-use lib.ListN.{getD}
 use Rattle.penalty.specs.Penalty.{finderLike, patterns}
-use Rattle.penalty.specs.Lines.{line, windowAt}
-use Rattle.penalty.proofs.Lines.{getD-line}
-use Rattle.penalty.proofs.Windows.{not-like}
+use Rattle.penalty.specs.Lines.{windowAt}
+use Rattle.penalty.proofs.Windows.{window-off}
 use borrow.Author.Needs.{needs}
 use Rattle.penalty.proofs.window_score.Statement.{statement}
 use Rattle.penalty.proofs.window_score.Tie as tie
-
--- module k is not the v that both patterns have there
-off : (m : List ℕ) (start stride k v : ℕ) → k < 11 → getD (getD patterns 0 []) k 0 ≡ v → getD (getD patterns 1 []) k 0 ≡ v
-    → (getD m (start + k * stride) 0 ≡ v → ⊥) → 0 ≡ windowAt m start stride
-unfolding windowAt
-off m start stride k v h a b n =
-    let e = getD-line m start stride 11 k h in
-    rw (not-like (line m start stride 11) k (λ p. n (sym e ∙ p ∙ a)) (λ p. n (sym e ∙ p ∙ b)))
 
 mul-if1 : tie.Need-mul-if1
 mul-if1 c = search needs
@@ -32,7 +20,7 @@ shared-slice-read-if1 c = search needs
 
 returns : tie.Need-returns
 unfolding patterns
-returns c = off _ _ _ 5 0 (omega arith) refl refl (c .if1 .taken)
+returns c = sym (window-off _ _ _ 4 1 (omega arith) refl refl (c .if1 .taken))
 
 mul-if2 : tie.Need-mul-if2
 mul-if2 c = search needs
@@ -45,7 +33,7 @@ shared-slice-read-if2 c = search needs
 
 returns-2 : tie.Need-returns-2
 unfolding patterns
-returns-2 c = off _ _ _ 4 1 (omega arith) refl refl (c .if2 .taken)
+returns-2 c = sym (window-off _ _ _ 6 1 (omega arith) refl refl (c .if2 .taken))
 
 mul-if3 : tie.Need-mul-if3
 mul-if3 c = search needs
@@ -58,20 +46,7 @@ shared-slice-read-if3 c = search needs
 
 returns-3 : tie.Need-returns-3
 unfolding patterns
-returns-3 c = off _ _ _ 6 1 (omega arith) refl refl (c .if3 .taken)
-
-mul-if4 : tie.Need-mul-if4
-mul-if4 c = search needs
-
-add-if4 : tie.Need-add-if4
-add-if4 c = search needs
-
-shared-slice-read-if4 : tie.Need-shared-slice-read-if4
-shared-slice-read-if4 c = search needs
-
-returns-4 : tie.Need-returns-4
-unfolding patterns
-returns-4 c = off _ _ _ 9 0 (omega arith) refl refl (c .if4 .taken)
+returns-3 c = sym (window-off _ _ _ 9 0 (omega arith) refl refl (c .if3 .taken))
 
 window-requires : tie.Need-window-requires
 window-requires c κs = search needs
@@ -79,13 +54,13 @@ window-requires c κs = search needs
 finder-like-requires : tie.Need-finder-like-requires
 finder-like-requires c κs = search needs
 
+returns-4 : tie.Need-returns-4
+unfolding windowAt
+returns-4 c = rw (ap finderLike (sym (c .before .before .window .ensures)) ∙ sym (c .before .finder-like .ensures) ∙ c .if4 .taken)
+
 returns-5 : tie.Need-returns-5
 unfolding windowAt
-returns-5 c = rw (ap finderLike (sym (c .before .before .window .ensures)) ∙ sym (c .before .finder-like .ensures) ∙ c .if5 .taken)
-
-returns-6 : tie.Need-returns-6
-unfolding windowAt
-returns-6 c = rw (ap finderLike (sym (c .before .before .window .ensures)) ∙ sym (c .before .finder-like .ensures) ∙ c .if5 .left)
+returns-5 c = rw (ap finderLike (sym (c .before .before .window .ensures)) ∙ sym (c .before .finder-like .ensures) ∙ c .if4 .left)
 
 pub window-score-spec : {M : Type 1} → statement M
 window-score-spec =
@@ -103,11 +78,7 @@ window-score-spec =
     add-if3
     shared-slice-read-if3
     returns-3
-    mul-if4
-    add-if4
-    shared-slice-read-if4
-    returns-4
     window-requires
     finder-like-requires
-    returns-5
-    returns-6)
+    returns-4
+    returns-5)
