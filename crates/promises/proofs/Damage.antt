@@ -11,15 +11,18 @@ use Rattle.basics.specs.Lists.{upTo, joined, AtMost}
 use Rattle.basics.specs.Sums.{sum}
 use Rattle.basics.proofs.Lists.{length-map-upTo, map-upTo-same}
 use Rattle.tables.specs.Tables
+use Rattle.tables.specs.Version.{Square}
 use Rattle.code.specs.Code.{Codeword, Stands, differing, unreadable}
 use Rattle.words.specs.Words.{Near, formatWord, formatBits, versionWord}
+use Rattle.words.proofs.Words.{format-only, version-only}
+use Rattle.words.proofs.Bits.{format-bits-lt}
 use Rattle.stream.specs.Stream.{LawfulMessage, dataCodewords}
 use Rattle.parse.specs.Parse.{Message, message}
 use Rattle.blocks.specs.Blocks.{block, gathered, dataOf}
 use Rattle.modules.specs.Modules.{symbol, formatPlaces, versionPlaces}
 use Rattle.scan.specs.Received.{copied, readable, received}
 use Rattle.writer.specs.Writer.{Request, Drawn, draw, codewords}
-use Rattle.reader.specs.Reader.{Answer, Read, Reads, answer, OtherVersion, TwoFormats, NoCodeword, Corrected, FormatStands, VersionStands, Sized, blockWord, blockFlags}
+use Rattle.reader.specs.Reader.{Answer, Read, Reads, answer, OtherVersion, TwoFormats, NoCodeword, Corrected, FormatStands, VersionStands, blockWord, blockFlags}
 use Rattle.promises.specs.Promises.{Bytes, LargeEnough, wrong, lost, CopyKept, Damaged, Survives}
 
 -- what a symbol holds that was drawn for a request, given what the crates below show
@@ -39,7 +42,7 @@ module _ (r : Request) (v mask payloadRoom listRoom : ℕ) (modules m : List ℕ
     (long : length m ≡ length modules) (values : AtMost 2 m)
     (blocks : (b : ℕ) → b < Tables.blockCount v (r .level) → 2 * wrong v (r .level) mask modules m b + lost v (r .level) mask m b ≤ Tables.room v (r .level))
   where
-    sized : Sized m v
+    sized : Square (length m) v
     sized = record { least = h .lawful .least; most = h .lawful .most; long = long ∙ h .long }
 
     -- each block stands for the codeword that was drawn
@@ -107,9 +110,6 @@ module _ (r : Request) (v mask payloadRoom listRoom : ℕ) (modules m : List ℕ
 -- ---- demand 3 in its own words
 
 module _
-    (format-only : (copy readable x y : ℕ) → x < 32 → y < 32 → Near 15 copy readable (formatWord x) → Near 15 copy readable (formatWord y) → x ≡ y)
-    (version-only : (copy readable x y : ℕ) → 7 ≤ x → x ≤ 40 → 7 ≤ y → y ≤ 40 → Near 18 copy readable (versionWord x) → Near 18 copy readable (versionWord y) → x ≡ y)
-    (bits-lt : (level mask : ℕ) → level < 4 → mask < 8 → formatBits level mask < 32)
     (holds : (r : Request) (out v mask : ℕ) (modules : List ℕ) → Bytes r → draw r out ≡ Drawn v mask modules → Holds r v mask modules)
   where
     pub survives : Survives
@@ -131,7 +131,7 @@ module _
         -- a copy stands for the drawn word alone
         alone : (copy l k : ℕ) → FormatStands v m copy l k → formatBits l k ≡ formatBits (r .level) mask
         alone copy l k s =
-            format-only _ _ _ _ (bits-lt l k (s .levels) (s .masks)) (bits-lt (r .level) mask (omega (arith, h .lawful .levels)) (h .masks)) (s .near)
+            format-only _ _ _ _ (format-bits-lt l k (s .levels) (s .masks)) (format-bits-lt (r .level) mask (omega (arith, h .lawful .levels)) (h .masks)) (s .near)
             (format copy (s .which) .near)
 
         two : TwoFormats v m → ⊥
@@ -139,5 +139,5 @@ module _
 
         other : OtherVersion v m → ⊥
         other (copy, x, n, s) =
-            n (version-only _ _ x v (s .least) (s .most) (s .drawn) (omega (arith, h .lawful .most)) (s .near)
+            n (version-only _ _ x v (s .near .least) (s .near .most) (s .drawn) (omega (arith, h .lawful .most)) (s .near .near)
             (subst (Near 18 (copied m (versionPlaces v copy)) (readable m (versionPlaces v copy))) (h .versions copy (s .which) (s .drawn)) (d .versions copy (s .which) (s .drawn))))

@@ -18,12 +18,13 @@ use Rattle.basics.specs.Sums.{one}
 use Rattle.basics.specs.Bits.{lowFirst}
 use Rattle.basics.proofs.Lists.{map-upTo-same}
 use Rattle.tables.specs.Tables
+use Rattle.tables.specs.Version.{Square}
 use Rattle.blocks.specs.Blocks.{gathered, sentPlace}
 use Rattle.blocks.proofs.Order.{sent-once}
 use Rattle.words.specs.Words.{Near}
 use Rattle.modules.specs.Modules.{order, flips, formatPlaces, versionPlaces}
 use Rattle.scan.specs.Received.{copied, readable, unmasked, received, eight, flag, codeword}
-use Rattle.reader.specs.Reader.{Answer, First, Reads, Sized, Versioned, Formatted, Corrected, FormatStands, VersionStands, NoVersion, Above, OtherVersion, NoFormat, TwoFormats, NoCodeword, Small, BlockStands, blockWord, blockFlags}
+use Rattle.reader.specs.Reader.{Answer, First, Reads, Versioned, Formatted, Corrected, FormatStands, VersionStands, NoVersion, Above, OtherVersion, NoFormat, TwoFormats, NoCodeword, Small, BlockStands, blockWord, blockFlags}
 use Rattle.promises.specs.Promises.{Agree, SameWhere, SameModules}
 
 -- ---- lists
@@ -111,8 +112,6 @@ module _ (v : ℕ) (a b : List ℕ) where
         record {
           which = s .which;
           drawn = s .drawn;
-          least = s .least;
-          most = s .most;
           near = rw (← copied-same (versionPlaces v copy) (same .version-modules copy (s .which)), ← readable-same (versionPlaces v copy) (same .version-modules copy (s .which))) (s .near);
         }
 
@@ -166,7 +165,7 @@ same-modules v a b payloadRoom listRoom x la lb ma mb same =
     first-same (λ s. s) (λ s. s)
     (first-same (λ n w s. n w (sized w s)) (λ n w s. n w (sized′ w s)) versioned)
   where
-    steps : (w : ℕ) → Sized a w → SameWhere w a b
+    steps : (w : ℕ) → Square (length a) w → SameWhere w a b
         → First (Above a) 8 x (First (OtherVersion w a) 9 x (First (NoFormat w a) 10 x (First (TwoFormats w a) 11 x (Formatted w a x))))
         → First (Above b) 8 x (First (OtherVersion w b) 9 x (First (NoFormat w b) 10 x (First (TwoFormats w b) 11 x (Formatted w b x))))
     steps w z s =
@@ -178,10 +177,10 @@ same-modules v a b payloadRoom listRoom x la lb ma mb same =
         (λ n. (n .0, n .1, n .2, n .3, format-same w b a (turned w a b s) _ _ _ (n .4), format-same w b a (turned w a b s) _ _ _ (n .5), n .6))
         (formatted w a b s x (z .least) (z .most)))))
 
-    sized : (w : ℕ) → Sized b w → Sized a w
+    sized : (w : ℕ) → Square (length b) w → Square (length a) w
     sized w s = record { least = s .least; most = s .most; long = la ∙ sym lb ∙ s .long }
 
-    sized′ : (w : ℕ) → Sized a w → Sized b w
+    sized′ : (w : ℕ) → Square (length a) w → Square (length b) w
     sized′ w s = record { least = s .least; most = s .most; long = lb ∙ sym la ∙ s .long }
 
     versioned : Versioned a x → Versioned b x

@@ -6,9 +6,11 @@ use mathlib.Core.List.{List, _++_}
 use Prim.Native.Nat.{ℕ, _+_, _*_, _/_, _≤_, _<_}
 use lib.ListN.{length, getD, drop}
 use Rattle.basics.specs.Sums.{sum}
-use Rattle.tables.specs.Tables.{lastVersion, side, room, blockCount, checkCount, mostPayload, mostList}
+use Rattle.tables.specs.Tables.{room, blockCount, checkCount, mostPayload, mostList}
+use Rattle.tables.specs.Version.{Square}
 use Rattle.code.specs.Code.{Stands}
-use Rattle.words.specs.Words.{formatWord, formatBits, versionWord, Near}
+use Rattle.words.specs.Words.{formatWord, formatBits, Near}
+use Rattle.words.specs.Found.{VersionNear}
 use Rattle.parse.specs.Parse.{Parsed, Message, Fault, message}
 use Rattle.blocks.specs.Blocks.{gathered, dataOf}
 use Rattle.modules.specs.Modules.{formatPlaces, versionPlaces}
@@ -23,13 +25,11 @@ pub record FormatStands (v : ℕ) (m : List ℕ) (copy level mask : ℕ) : Type 
   pub masks : mask < 8
   pub near : Near 15 (copied m (formatPlaces v copy)) (readable m (formatPlaces v copy)) (formatWord (formatBits level mask))
 
--- copy 0 or 1 of the version word, "drawn from version 7 on", stands for a version: "versions 7 to 40 in the code"
+-- copy 0 or 1 of the version word, "drawn from version 7 on", stands for a version
 pub record VersionStands (v : ℕ) (m : List ℕ) (copy x : ℕ) : Type 0 where
   pub which : copy < 2
   pub drawn : 7 ≤ v
-  pub least : 7 ≤ x
-  pub most : x ≤ 40
-  pub near : Near 18 (copied m (versionPlaces v copy)) (readable m (versionPlaces v copy)) (versionWord x)
+  pub near : VersionNear (copied m (versionPlaces v copy)) (readable m (versionPlaces v copy)) x
 
 -- ---- blocks
 
@@ -65,15 +65,9 @@ First fault n a later = (fault × (a ≡ Refused n)) ⊎ ((fault → ⊥) × lat
 abbrev pub Small : (payloadRoom listRoom : ℕ) → Type 0
 Small payloadRoom listRoom = (payloadRoom < mostPayload) ⊎ (listRoom < mostList)
 
--- the matrix has the length of a version 1 to 10
-pub record Sized (m : List ℕ) (v : ℕ) : Type 0 where
-  pub least : 1 ≤ v
-  pub most : v ≤ lastVersion
-  pub long : length m ≡ side v * side v
-
 -- 7: "matrix length is not s·s for a version 1 to 10"
 abbrev pub NoVersion : List ℕ → Type 0
-NoVersion m = (v : ℕ) → Sized m v → ⊥
+NoVersion m = (v : ℕ) → Square (length m) v → ⊥
 
 -- 8: "a module above 2"
 abbrev pub Above : List ℕ → Type 0
@@ -117,7 +111,7 @@ pub record Formatted (v : ℕ) (m : List ℕ) (a : Answer) : Type 0 where
 -- "side length fixes the version"
 pub record Versioned (m : List ℕ) (a : Answer) : Type 0 where
   pub version : ℕ
-  pub sized : Sized m version
+  pub sized : Square (length m) version
   pub then : First (Above m) 8 a (First (OtherVersion version m) 9 a (First (NoFormat version m) 10 a (First (TwoFormats version m) 11 a (Formatted version m a))))
 
 -- "the reader checks 16 first, then 7 to 12, then the stream from its front, where the first fault decides"
