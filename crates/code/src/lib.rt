@@ -30,12 +30,12 @@ fn generator(n: usize) -> [u8; 33]
     let mut g: [u8; 33] = [0; 33];
     g[0] = 1;
     let mut root: u8 = 1;
-    let mut i: usize = 0;
-    while i < n {
+    let mut roots: usize = 0;
+    while roots < n {
         let next = times_root(g, root);
         g = next;
         root = field::dbl(root);
-        i += 1;
+        roots += 1;
     }
     g
 }
@@ -117,11 +117,11 @@ fn values(word: &[u8]) -> [u8; 32]
 {
     let p = powers();
     let mut s: [u8; 32] = [0; 32];
-    let mut j: usize = 0;
-    while j < word.len() {
-        let next = horner(s, p, word[j]);
+    let mut read: usize = 0;
+    while read < word.len() {
+        let next = horner(s, p, word[read]);
         s = next;
-        j += 1;
+        read += 1;
     }
     s
 }

@@ -13,10 +13,10 @@ use Rattle.code.proofs.generator.Statement.{statement}
 use Rattle.code.proofs.generator.Tie as tie
 
 abbrev Inv-loop : tie.InvT-loop
-Inv-loop n g₀ root₀ i₀ g root i = (i ≤ n) × (root ≡ powN i) × (g ≡ padded 33 (generator i))
+Inv-loop n g₀ root₀ roots₀ g root roots = (roots ≤ n) × (root ≡ powN roots) × (g ≡ padded 33 (generator roots))
 
 abbrev μ-loop : tie.MeasureT-loop
-μ-loop n g₀ root₀ i₀ g root i = n - i
+μ-loop n g₀ root₀ roots₀ g root roots = n - roots
 
 array-write-g : tie.Need-array-write-g Inv-loop μ-loop
 array-write-g c = search needs
@@ -31,8 +31,8 @@ times-root-requires c κs = search needs
 dbl-requires : tie.Need-dbl-requires Inv-loop μ-loop
 dbl-requires c κs = search needs
 
-add-i : tie.Need-add-i Inv-loop μ-loop
-add-i c = search needs
+add-roots : tie.Need-add-roots Inv-loop μ-loop
+add-roots c = search needs
 
 loop-less : tie.Need-loop-less Inv-loop μ-loop
 loop-less c = search needs
@@ -41,12 +41,12 @@ loop-again : tie.Need-loop-again Inv-loop μ-loop
 unfolding powN
 loop-again c =
     let l = c .before .before .before .loop in
-    (search needs, rw (add-one, c .dbl .ensures, l .inv .1), generator-more (l .i) (l .root) (l .g) _ (search needs) (l .inv .1) (l .inv .2) (c .before .times-root .ensures))
+    (search needs, rw (add-one, c .dbl .ensures, l .inv .1), generator-more (l .roots) (l .root) (l .g) _ (search needs) (l .inv .1) (l .inv .2) (c .before .times-root .ensures))
 
 returns : tie.Need-returns Inv-loop μ-loop
 returns c =
     let l = c .before .loop in
-    let e : l .i ≡ c .before .before .args .n = omega arith in
+    let e : l .roots ≡ c .before .before .args .n = omega arith in
     rw e at (l .inv .2)
 
 pub generator-spec : {M : Type 1} → statement M
@@ -59,7 +59,7 @@ generator-spec =
     loop-holds
     times-root-requires
     dbl-requires
-    add-i
+    add-roots
     loop-less
     loop-again
     returns)
