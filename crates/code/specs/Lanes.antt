@@ -6,6 +6,13 @@ use lib.Bits.{bitXor}
 use lib.ListN.{length, getD, replicate}
 use Rattle.field.specs.Field.{mulN}
 
+-- how many coefficients a loop takes together, and how many a polynomial of that degree has
+abbrev pub lanes : ℕ
+lanes = 32
+
+abbrev pub coefficients : ℕ
+coefficients = 33
+
 -- a list, and zeros up to m entries
 unfoldable pub padded : ℕ → List ℕ → List ℕ
 padded m l = l ++ replicate (m - length l) 0

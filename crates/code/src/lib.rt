@@ -1,21 +1,26 @@
 // The code of a block: the checks of data, written into a lent part, and the values of a word at the powers of 2.
 ghost use mathlib.Core.Path.{_≡_};
 ghost use mathlib.Core.List.{_++_};
-ghost use Prim.Native.Nat.{suc, _+_, _-_, _≤_, _<_};
-ghost use lib.Bits.{bitXor};
-ghost use lib.ListN.{length, take, getD, replicate};
+ghost use Prim.Native.Nat.{_≤_};
+ghost use lib.ListN.{length, take, replicate};
 ghost use Rattle.basics.specs.Build.{build};
-ghost use Rattle.field.specs.Field.{mulN, powN};
+ghost use Rattle.field.specs.Field.{powN};
 ghost use Rattle.code.specs.Code.{value, checks, syndromesOf, generator as generatorOf};
-ghost use Rattle.code.specs.Lanes.{rooted, reduced, padded, hornered};
+ghost use Rattle.code.specs.Lanes.{lanes, coefficients, rooted, reduced, padded, hornered};
+
+// The coefficients that a loop takes together: more than any block has checks, and a whole number of vectors.
+const LANES: usize = 32;
+
+// A polynomial of a degree up to LANES, the highest power first.
+const COEFFICIENTS: usize = LANES + 1;
 
 // The product of a polynomial and (x − a).
-fn times_root(g: [u8; 33], a: u8) -> [u8; 33]
-    ensures { λ r. ⌜ r ≡ build (rooted g a) 33 ⌝ }
+fn times_root(g: [u8; COEFFICIENTS], a: u8) -> [u8; COEFFICIENTS]
+    ensures { λ r. ⌜ r ≡ build (rooted g a) coefficients ⌝ }
 {
     let mut r = g;
     let mut k: usize = 0;
-    while k < 32 {
+    while k < LANES {
         r[k + 1] = g[k + 1] ^ field::mul(a, g[k]);
         k += 1;
     }
@@ -23,11 +28,11 @@ fn times_root(g: [u8; 33], a: u8) -> [u8; 33]
 }
 
 // The generator for n checks, the highest power first.
-fn generator(n: usize) -> [u8; 33]
+fn generator(n: usize) -> [u8; COEFFICIENTS]
     requires { ⌜ n ≤ 30 ⌝ }
-    ensures { λ r. ⌜ r ≡ padded 33 (generatorOf n) ⌝ }
+    ensures { λ r. ⌜ r ≡ padded coefficients (generatorOf n) ⌝ }
 {
-    let mut g: [u8; 33] = [0; 33];
+    let mut g: [u8; COEFFICIENTS] = [0; COEFFICIENTS];
     g[0] = 1;
     let mut root: u8 = 1;
     let mut roots: usize = 0;
@@ -41,13 +46,13 @@ fn generator(n: usize) -> [u8; 33]
 }
 
 // The remainder r after one more data codeword d.
-fn reduce(r: [u8; 33], g: [u8; 33], d: u8) -> [u8; 33]
-    ensures { λ s. ⌜ s ≡ build (reduced r g d) 32 ++ replicate 1 0 ⌝ }
+fn reduce(r: [u8; COEFFICIENTS], g: [u8; COEFFICIENTS], d: u8) -> [u8; COEFFICIENTS]
+    ensures { λ s. ⌜ s ≡ build (reduced r g d) lanes ++ replicate 1 0 ⌝ }
 {
     let c = d ^ r[0];
-    let mut s: [u8; 33] = [0; 33];
+    let mut s: [u8; COEFFICIENTS] = [0; COEFFICIENTS];
     let mut k: usize = 0;
-    while k < 32 {
+    while k < LANES {
         s[k] = r[k + 1] ^ field::mul(c, g[k + 1]);
         k += 1;
     }
@@ -55,12 +60,12 @@ fn reduce(r: [u8; 33], g: [u8; 33], d: u8) -> [u8; 33]
 }
 
 // The remainder of the data times x^n, n coefficients from the front.
-fn remainder(held: &[u8], n: usize) -> [u8; 33]
+fn remainder(held: &[u8], n: usize) -> [u8; COEFFICIENTS]
     requires { ⌜ n ≤ 30 ⌝ }
     ensures { λ r. ⌜ take n r ≡ checks n (now (held .entry)) ⌝ }
 {
     let g = generator(n);
-    let mut r: [u8; 33] = [0; 33];
+    let mut r: [u8; COEFFICIENTS] = [0; COEFFICIENTS];
     let mut i: usize = 0;
     while i < held.len() {
         let next = reduce(r, g, held[i]);
@@ -84,13 +89,13 @@ pub fn checks_into(held: &[u8], out: &mut [u8])
 }
 
 // 1, 2, 4 and so on: the 32 first powers of 2 in the field.
-fn powers() -> [u8; 32]
-    ensures { λ r. ⌜ r ≡ build powN 32 ⌝ }
+fn powers() -> [u8; LANES]
+    ensures { λ r. ⌜ r ≡ build powN lanes ⌝ }
 {
-    let mut p: [u8; 32] = [0; 32];
+    let mut p: [u8; LANES] = [0; LANES];
     let mut power: u8 = 1;
     let mut k: usize = 0;
-    while k < 32 {
+    while k < LANES {
         p[k] = power;
         power = field::dbl(power);
         k += 1;
@@ -99,12 +104,12 @@ fn powers() -> [u8; 32]
 }
 
 // Each value times its power, and the next codeword c added to each.
-fn horner(s: [u8; 32], p: [u8; 32], c: u8) -> [u8; 32]
-    ensures { λ r. ⌜ r ≡ build (hornered s p c) 32 ⌝ }
+fn horner(s: [u8; LANES], p: [u8; LANES], c: u8) -> [u8; LANES]
+    ensures { λ r. ⌜ r ≡ build (hornered s p c) lanes ⌝ }
 {
-    let mut r: [u8; 32] = [0; 32];
+    let mut r: [u8; LANES] = [0; LANES];
     let mut k: usize = 0;
-    while k < 32 {
+    while k < LANES {
         r[k] = field::mul(s[k], p[k]) ^ c;
         k += 1;
     }
@@ -112,11 +117,11 @@ fn horner(s: [u8; 32], p: [u8; 32], c: u8) -> [u8; 32]
 }
 
 // The values of the word at the 32 first powers of 2.
-fn values(word: &[u8]) -> [u8; 32]
-    ensures { λ r. ⌜ r ≡ build (λ i. value (powN i) (now (word .entry))) 32 ⌝ }
+fn values(word: &[u8]) -> [u8; LANES]
+    ensures { λ r. ⌜ r ≡ build (λ i. value (powN i) (now (word .entry))) lanes ⌝ }
 {
     let p = powers();
-    let mut s: [u8; 32] = [0; 32];
+    let mut s: [u8; LANES] = [0; LANES];
     let mut read: usize = 0;
     while read < word.len() {
         let next = horner(s, p, word[read]);
@@ -127,12 +132,12 @@ fn values(word: &[u8]) -> [u8; 32]
 }
 
 // The n syndromes of the word, and zeros behind them.
-pub fn syndromes(word: &[u8], n: usize) -> [u8; 32]
-    requires { ⌜ n ≤ 32 ⌝ }
+pub fn syndromes(word: &[u8], n: usize) -> [u8; LANES]
+    requires { ⌜ n ≤ lanes ⌝ }
     ensures { λ r. ⌜ r ≡ syndromesOf n (now (word .entry)) ⌝ }
 {
     let all = values(word);
-    let mut r: [u8; 32] = [0; 32];
+    let mut r: [u8; LANES] = [0; LANES];
     let mut i: usize = 0;
     while i < n {
         r[i] = all[i];
