@@ -1,4 +1,6 @@
+pub mod Centres
 pub mod Geometry
 pub mod Kept
 pub mod Open
+pub mod Stamps
 pub mod Tests
