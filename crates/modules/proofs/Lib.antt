@@ -1,4 +1,5 @@
 pub mod Centres
+pub mod Drawn
 pub mod Geometry
 pub mod Kept
 pub mod Open

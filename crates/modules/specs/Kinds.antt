@@ -95,6 +95,20 @@ unfoldable pub aligned : (v t : ℕ) (out : List ℕ) → List ℕ
 aligned v zero out = out
 aligned v (suc t) out = alignedOne v t (aligned v t out)
 
+-- three finders with their separators
+unfoldable pub findersOn : (s : ℕ) (out : List ℕ) → List ℕ
+findersOn s out =
+    stamped (squarePlace s (s - 8) 0 8) (bitOf 0x7F415D5D5D417F00) 64
+    (stamped (squarePlace s 0 (s - 8) 8) (bitOf 0xFE82BABABA82FE) 64 (stamped (squarePlace s 0 0 8) (bitOf 0x7F415D5D5D417F) 64 out))
+
+-- timing, alignment, format bits, and the module that is always dark
+unfoldable pub frameOn : (v : ℕ) (out : List ℕ) → List ℕ
+frameOn v out =
+    let s = side v in
+    let timed = stamped (timingPlace s) timingValue (2 * (s - 16)) out in
+    let n = length (centres v) in
+    set (stamped (formatPlace v) formatValue 30 (aligned v (n * n) timed)) ((s - 8) * s + 8) 1
+
 -- ---- filling
 
 -- a matrix that is being filled, and how many codeword bits are used

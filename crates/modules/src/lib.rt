@@ -6,13 +6,16 @@ ghost use lib.ListN.{length, getD, drop, replicate};
 ghost use Rattle.basics.specs.Bits.{bitOf, byteBits};
 ghost use Rattle.tables.specs.Tables.{side as sideOf, centres, lastVersion};
 ghost use Rattle.modules.specs.Modules.{formatPlaces, versionPlaces};
-ghost use Rattle.modules.specs.Kinds.{kinds as kindsOf, rowFlips, stamped, squarePlace, timingPlace, timingValue, formatPlace, formatValue, versionPlace, versionValue, atFinder, alignedOne, aligned};
+ghost use Rattle.modules.specs.Kinds.{kinds as kindsOf, rowFlips, stamped, squarePlace, timingPlace, timingValue, formatPlace, formatValue, versionPlace, versionValue, atFinder, alignedOne, aligned, findersOn, frameOn};
 
 // The kind of a data module that is not filled.
 const DATA: u8 = 2;
 
 // The kind of bit 0 of the format word.
 const FORMAT: usize = 4;
+
+// The version word is drawn from this version on.
+const FIRST_WITH_WORD: usize = 7;
 
 // Dark modules of a finder with its light separator, 8 by 8, row by row from bit 0.
 const FINDER_TOP_LEFT: u64 = 0x7F415D5D5D417F;
@@ -230,4 +233,51 @@ fn alignments(out: &mut [u8], v: usize)
         alignment(out, v, t);
         t += 1;
     }
+}
+
+// The three finders with their separators.
+fn finders(out: &mut [u8], s: usize)
+    requires { ⌜ (21 ≤ s) × ((s ≤ 57) × (s * s ≤ length (now out))) ⌝ }
+    ensures { λ _. ⌜ now (out .exit) ≡ findersOn s (now (out .entry)) ⌝ }
+{
+    square(out, s, 0, 0, 8, FINDER_TOP_LEFT);
+    square(out, s, 0, s - 8, 8, FINDER_TOP_RIGHT);
+    square(out, s, s - 8, 0, 8, FINDER_BOTTOM_LEFT);
+}
+
+// Timing, alignment patterns, the format word's bits and the module that is always dark.
+fn frame(out: &mut [u8], v: usize)
+    requires { ⌜ (1 ≤ v) × ((v ≤ lastVersion) × (sideOf v * sideOf v ≤ length (now out))) ⌝ }
+    ensures { λ _. ⌜ now (out .exit) ≡ frameOn v (now (out .entry)) ⌝ }
+{
+    let s = tables::side(v);
+    timing(out, s);
+    alignments(out, v);
+    formats(out, v);
+    let dark = place(s, s - 8, 8);
+    out[dark] = 1;
+}
+
+// The kinds of a version's modules, pattern after pattern, over a matrix of its length.
+fn patterns(out: &mut [u8], v: usize)
+    requires { ⌜ (1 ≤ v) × ((v ≤ lastVersion) × (length (now out) ≡ sideOf v * sideOf v)) ⌝ }
+    ensures { λ _. ⌜ now (out .exit) ≡ kindsOf v ⌝ }
+{
+    clear(out);
+    finders(out, tables::side(v));
+    frame(out, v);
+    if v < FIRST_WITH_WORD {
+        return;
+    }
+    versions(out, v, words::version_word(v as u32) as u64);
+}
+
+// The kind of each module of a version, no data module filled.
+pub fn kinds(v: usize, out: &mut [u8])
+    requires { ⌜ (1 ≤ v) × ((v ≤ lastVersion) × (sideOf v * sideOf v ≤ length (now out))) ⌝ }
+    ensures { λ _. ⌜ now (out .exit) ≡ kindsOf v ++ drop (sideOf v * sideOf v) (now (out .entry)) ⌝ }
+{
+    let s = tables::side(v);
+    let n = s * s;
+    patterns(&mut out[0..n], v);
 }

@@ -1,0 +1,58 @@
+-- The patterns of a version drawn one after the other are its modules' kinds: one test a version, computed.
+-- Assumes nothing.
+use mathlib.Core.Path.{_≡_, refl, sym, ap, ap₂, subst, _∙_}
+use mathlib.Core.Bool.{Bool, true, false, _&&_}
+use mathlib.Core.List.{List, [], _∷_}
+use Prim.Native.Nat.{ℕ, zero, suc, _+_, _-_, _*_, _≤_, _<_}
+use native.Mathlib.Omega.{arith}
+use lib.Dec.{T, eqb, eqb→eq}
+use lib.ListN.{length, set, replicate}
+use Rattle.basics.specs.Bits.{bitOf}
+use Rattle.basics.specs.Lists.{same}
+use Rattle.basics.proofs.Test.{all, at}
+use Rattle.tables.specs.Tables.{side, centres}
+use Rattle.words.specs.Words.{versionWord}
+use Rattle.modules.specs.Kinds.{kinds, stamped, squarePlace, timingPlace, timingValue, formatPlace, formatValue, versionPlace, versionValue, atFinder, alignedOne, aligned, findersOn, frameOn}
+use Rattle.modules.proofs.Open.{every}
+
+unfoldable pub below7 : (v : ℕ) → List ℕ
+below7 v = frameOn v (findersOn (side v) (replicate (side v * side v) 2))
+
+unfoldable pub from7 : (v : ℕ) → List ℕ
+from7 v = stamped (versionPlace v) (versionValue (versionWord v)) 36 (below7 v)
+
+below-tested : T (all 6 (λ n. same (below7 (1 + n)) (kinds (1 + n))))
+unfolding every findersOn frameOn below7 kinds stamped squarePlace timingPlace timingValue formatPlace formatValue atFinder alignedOne aligned
+below-tested = tt
+
+from-tested : T (all 4 (λ n. same (from7 (7 + n)) (kinds (7 + n))))
+unfolding every findersOn frameOn below7 from7 kinds stamped squarePlace timingPlace timingValue formatPlace formatValue versionPlace versionValue atFinder alignedOne aligned
+from-tested = tt
+
+and-left : (a b : Bool) → T (a && b) → T a
+and-left true b t = tt
+and-left false b t = absurd t
+
+and-right : (a b : Bool) → T (a && b) → T b
+and-right true b t = t
+and-right false b t = absurd t
+
+same-lists : (xs ys : List ℕ) → T (same xs ys) → xs ≡ ys
+unfolding same
+same-lists [] [] t = refl
+same-lists [] (y ∷ ys) t = absurd t
+same-lists (x ∷ xs) [] t = absurd t
+same-lists (x ∷ xs) (y ∷ ys) t =
+    ap₂ _∷_ (eqb→eq x y (and-left (eqb x y) (same xs ys) t)) (same-lists xs ys (and-right (eqb x y) (same xs ys) t))
+
+pub below-drawn : (v : ℕ) → 1 ≤ v → v < 7 → below7 v ≡ kinds v
+below-drawn v l m =
+    let e : 1 + (v - 1) ≡ v = omega arith in
+    subst (λ (v : ℕ). below7 v ≡ kinds v) e
+    (same-lists _ _ (at 6 (λ n. same (below7 (1 + n)) (kinds (1 + n))) below-tested (v - 1) (omega arith)))
+
+pub from-drawn : (v : ℕ) → 7 ≤ v → v ≤ 10 → from7 v ≡ kinds v
+from-drawn v l m =
+    let e : 7 + (v - 7) ≡ v = omega arith in
+    subst (λ (v : ℕ). from7 v ≡ kinds v) e
+    (same-lists _ _ (at 4 (λ n. same (from7 (7 + n)) (kinds (7 + n))) from-tested (v - 7) (omega arith)))
