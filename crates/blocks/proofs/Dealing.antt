@@ -16,7 +16,7 @@ use Rattle.basics.proofs.Sums.{sum-mono}
 use Rattle.tables.specs.Tables.{total, checkCount, blockCount, dataCount, blockData, blockStart, blockLength, Lawful}
 use Rattle.tables.proofs.Rules.{data-sum, length-sum, block-end}
 use Rattle.code.specs.Code.{plus, divided, lower, generator, checks}
-use Rattle.blocks.specs.Blocks.{block, Cell, sentOrder, inOrder, sent, sentPlace, gathered, gatheredAll, blockOffset, blockOf, dataOf}
+use Rattle.blocks.specs.Blocks.{withChecks, block, Cell, sentOrder, inOrder, sent, sentPlace, gathered, gatheredAll, blockOffset, blockOf, dataOf}
 use Rattle.blocks.proofs.Cuts.{cut, length-joined, part-joined}
 use Rattle.blocks.proofs.Order.{SentOnce, sent-once}
 
@@ -39,6 +39,9 @@ unfolding checks
 length-checks n held =
     length-divided (lower (generator n)) (length held) (held ++ replicate n 0)
     ∙ rw (length-append, length-replicate) (add-sub-cancel-left (length held) n)
+
+pub checks-long : (n k : ℕ) (held made : List ℕ) → made ≡ checks k held → k ≡ n → length made ≡ n
+checks-long n k held made e h = rw e (length-checks k held) ∙ h
 
 -- ---- blocks one after the other
 
@@ -71,6 +74,12 @@ module _ (v level : ℕ) where
   pub block-of-gathered : (at : ℕ → ℕ) (b : ℕ) → b < blockCount v level → blockOf v level (gatheredAll v level at) b ≡ gathered v level at b
   unfolding gatheredAll
   block-of-gathered at b h = block-of-joined (gathered v level at) (λ b l. length-gathered at b) b h
+
+  -- the part of the data that is block b's, and its checks
+  pub the-block : (codewords : List ℕ) (b a n : ℕ) → a ≡ blockStart v level b → n ≡ blockData v level b
+      → withChecks (checkCount v level) (take (a + n - a) (drop a codewords)) ≡ block v level codewords b
+  unfolding block
+  the-block codewords b a n e h = rw (the-part codewords a n, e, h)
 
   -- the part of the buffer that is block b's data
   pub the-data : (blocks : List ℕ) (b w n : ℕ) → w ≡ blockOffset v level b → n ≡ blockData v level b
@@ -115,7 +124,7 @@ module _ (v level : ℕ) (lawful : Lawful v level) where
         (rw length-drop (omega (arith, block-end v level b lawful h)))
 
     pub length-block : (b : ℕ) → b < blockCount v level → length (block v level codewords b) ≡ blockLength v level b
-    unfolding block blockLength
+    unfolding block withChecks blockLength
     length-block b h =
         length-append (take (blockData v level b) (drop (blockStart v level b) codewords)) (checks (checkCount v level) (take (blockData v level b) (drop (blockStart v level b) codewords)))
         ∙ rw (length-held b h, length-checks)
@@ -145,7 +154,7 @@ module _ (v level : ℕ) (lawful : Lawful v level) where
         ∙ list-upTo (block v level codewords b)
 
     pub data-back : dataOf v level (block v level codewords) ≡ codewords
-    unfolding dataOf block blockStart
+    unfolding dataOf block withChecks blockStart
     data-back =
         ap joined
         (map-upTo-same _ (λ b. take (blockData v level b) (drop (sum b (blockData v level)) codewords)) (blockCount v level)

@@ -11,10 +11,13 @@ use Rattle.basics.specs.Walk.{walked}
 use Rattle.tables.specs.Tables.{blockCount, checkCount, dataCount, shortLength, shortBlocks, blockData, blockStart, blockLength}
 use Rattle.code.specs.Code.{checks}
 
--- "data fills the blocks in order": block b, and its checks after it
+-- a block's data, and its checks after it
+unfoldable pub withChecks : (n : ℕ) (held : List ℕ) → List ℕ
+withChecks n held = held ++ checks n held
+
+-- "data fills the blocks in order": block b
 unfoldable pub block : (v level : ℕ) (codewords : List ℕ) (b : ℕ) → List ℕ
-block v level codewords b =
-    let held = take (blockData v level b) (drop (blockStart v level b) codewords) in held ++ checks (checkCount v level) held
+block v level codewords b = withChecks (checkCount v level) (take (blockData v level b) (drop (blockStart v level b) codewords))
 
 -- a codeword's block, and its place in the block
 pub record Cell : Type 0 where

@@ -2,9 +2,13 @@
 ghost use mathlib.Core.Path.{_≡_};
 ghost use Prim.Native.Nat.{_+_, _*_, _≤_, _<_};
 ghost use lib.ListN.{length, getD};
-ghost use Rattle.tables.specs.Tables.{Lawful, total, blockCount, dataCount, blockLength};
-ghost use Rattle.blocks.specs.Blocks.{dealt, sentPlace, gathered, gatheredAll, blockOf, dataOf};
+ghost use Rattle.tables.specs.Tables.{Lawful, total, checkCount, blockCount, dataCount, blockData, blockLength};
+ghost use Rattle.code.specs.Code.{checks};
+ghost use Rattle.blocks.specs.Blocks.{withChecks, sent, dealt, sentPlace, gathered, gatheredAll, blockOf, dataOf};
 ghost use Rattle.blocks.specs.Sizes.{Modest, sizesOf, placeBy};
+
+// The most checks that the blocks of any version and level have together.
+pub const ALL_CHECKS: usize = 224;
 
 // What the version table says of the blocks of a version and a level: all data codewords, the blocks, the data codewords of a
 // short block, and the first block that holds one more.
@@ -69,6 +73,39 @@ fn deal(part: &[u8], v: usize, level: usize, b: usize, first: usize, out: &mut [
         let q = place(s, b, first + k);
         out[q] = part[k];
         k += 1;
+    }
+}
+
+// Block b, from its data: its checks are written into their part, and all its codewords go to their places in the sent order.
+fn send_block(held: &[u8], made: &mut [u8], v: usize, level: usize, b: usize, out: &mut [u8])
+    requires { ⌜ Lawful v level × ((b < blockCount v level) × (length (now out) ≡ total v)) ⌝ }
+    requires { ⌜ (length (now held) ≡ blockData v level b) × (length (now made) ≡ checkCount v level) ⌝ }
+    ensures { λ _. ⌜ now (made .exit) ≡ checks (checkCount v level) (now (held .entry)) ⌝ }
+    ensures { λ _. ⌜ now (out .exit) ≡ dealt (sentPlace v level b) (withChecks (checkCount v level) (now (held .entry))) (now (out .entry)) ⌝ }
+{
+    code::checks_into(held, made);
+    deal(held, v, level, b, 0, out);
+    deal(made, v, level, b, held.len(), out);
+}
+
+// The codewords of all blocks in the sent order, from the data codewords.
+pub fn send(data: &[u8], v: usize, level: usize, out: &mut [u8])
+    requires { ⌜ Lawful v level × ((length (now «data») ≡ dataCount v level) × (length (now out) ≡ total v)) ⌝ }
+    ensures { λ _. ⌜ now (out .exit) ≡ sent v level (now («data» .entry)) ⌝ }
+{
+    let blocks = tables::blocks(v, level);
+    let n = tables::checks(v, level);
+    let mut made = [0u8; ALL_CHECKS];
+    let mut a: usize = 0;
+    let mut c: usize = 0;
+    let mut b: usize = 0;
+    while b < blocks {
+        let e = a + tables::block_data(v, level, b);
+        let d = c + n;
+        send_block(&data[a..e], &mut made[c..d], v, level, b, out);
+        a = e;
+        c = d;
+        b += 1;
     }
 }
 
