@@ -2,7 +2,7 @@
 -- n + 1 coefficients, and were one of them 0, the two would differ in n places and be equal.
 -- Assumes nothing.
 use mathlib.Core.Path.{_≡_, refl, sym, ap, _∙_}
-use mathlib.Core.Bool.{Bool, true, false, not}
+use mathlib.Core.Bool.{Bool, false, not}
 use mathlib.Core.List.{List, _++_}
 use Prim.Native.Nat.{ℕ, zero, suc, _+_, _-_, _≤_, _<_}
 use native.Mathlib.Nat.{add-zero, add-suc}
@@ -10,7 +10,8 @@ use native.Mathlib.Omega.{arith}
 use lib.Dec.{lit<, eqb}
 use lib.ListN.{length, getD, replicate, length-append, length-replicate, List·getD-append}
 use lib.Seq.{getD-append-add}
-use Rattle.basics.specs.Sums.{sum, one, tally}
+use Rattle.basics.specs.Sums.{sum, tally}
+use Rattle.basics.proofs.Sums.{one-le}
 use Rattle.field.specs.Field.{powN}
 use Rattle.field.proofs.Byte.{elt}
 use Rattle.theory.proofs.Gf.{gf256}
@@ -46,14 +47,10 @@ unfolding tally sum
 tally-none zero test h = refl
 tally-none (suc m) test h = rw (h m (omega arith), tally-none m test (λ j l. h j (omega arith)))
 
-one-most : (b : Bool) → one b ≤ 1
-one-most true = omega arith
-one-most false = omega arith
-
 tally-last : (m k : ℕ) (test : ℕ → Bool) → ((j : ℕ) → j < m → test j ≡ false) → tally (m + k) test ≤ k
 unfolding tally sum
 tally-last m zero test h = rw (add-zero, tally-none m test h) (omega arith)
-tally-last m (suc k) test h = rw add-suc (omega (arith, tally-last m k test h, one-most (test (m + k))))
+tally-last m (suc k) test h = rw add-suc (omega (arith, tally-last m k test h, one-le (test (m + k))))
 
 module _ (n k : ℕ) where
   reached : List ℕ
