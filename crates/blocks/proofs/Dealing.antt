@@ -124,7 +124,7 @@ module _ (v level : ℕ) (lawful : Lawful v level) where
         (rw length-drop (omega (arith, block-end v level b lawful h)))
 
     pub length-block : (b : ℕ) → b < blockCount v level → length (block v level codewords b) ≡ blockLength v level b
-    unfolding block withChecks blockLength
+    unfolding block blockLength
     length-block b h =
         length-append (take (blockData v level b) (drop (blockStart v level b) codewords)) (checks (checkCount v level) (take (blockData v level b) (drop (blockStart v level b) codewords)))
         ∙ rw (length-held b h, length-checks)
@@ -154,7 +154,7 @@ module _ (v level : ℕ) (lawful : Lawful v level) where
         ∙ list-upTo (block v level codewords b)
 
     pub data-back : dataOf v level (block v level codewords) ≡ codewords
-    unfolding dataOf block withChecks blockStart
+    unfolding dataOf block blockStart
     data-back =
         ap joined
         (map-upTo-same _ (λ b. take (blockData v level b) (drop (sum b (blockData v level)) codewords)) (blockCount v level)

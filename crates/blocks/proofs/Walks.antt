@@ -77,5 +77,4 @@ module _ (place : ℕ → ℕ) (part out : List ℕ) where
 -- data that is dealt, and then its checks
 pub block-dealt : (place : ℕ → ℕ) (held made out out₁ out₂ : List ℕ) (k n : ℕ) → made ≡ checks k held → k ≡ n → out₁ ≡ dealt (λ k. place (0 + k)) held out
     → out₂ ≡ dealt (λ k. place (length held + k)) made out₁ → out₂ ≡ dealt place (withChecks n held) out
-unfolding withChecks
 block-dealt place held made out out₁ out₂ k n em ek e₁ e₂ = e₂ ∙ rw (e₁, em, ek) (dealt-append place held (checks n held) out (length held) refl)

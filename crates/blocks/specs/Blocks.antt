@@ -12,7 +12,7 @@ use Rattle.tables.specs.Tables.{blockCount, checkCount, dataCount, shortLength,
 use Rattle.code.specs.Code.{checks}
 
 -- a block's data, and its checks after it
-unfoldable pub withChecks : (n : ℕ) (held : List ℕ) → List ℕ
+abbrev pub withChecks : (n : ℕ) (held : List ℕ) → List ℕ
 withChecks n held = held ++ checks n held
 
 -- "data fills the blocks in order": block b
