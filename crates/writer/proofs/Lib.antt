@@ -1,0 +1,4 @@
+pub mod Drawn
+pub mod Faults
+pub mod Fit
+pub mod Refusals

@@ -1,0 +1,107 @@
+-- The version that is taken: the named one where it fits, with version 0 the smallest that fits, and 0 where there is none.
+-- Assumes nothing.
+use mathlib.Core.Path.{_≡_, refl, sym, ap, _∙_}
+use mathlib.Core.Bool.{Bool, true, false, cond, true≢false}
+use mathlib.Core.Logic.{_≢_, _⊎_, inl, inr, ⊎-elim, by-cases}
+use mathlib.Core.List.{List, [], _∷_}
+use Prim.Native.Nat.{ℕ, zero, suc, _+_, _≤_, _<_}
+use native.Mathlib.Decide.{ℕ-discrete}
+use native.Mathlib.Omega.{arith}
+use borrow.Author.Tests.{eq-eqb, ne-eqb}
+use lib.Dec.{eqb}
+use Rattle.basics.specs.Lists.{from, keep}
+use Rattle.tables.specs.Tables.{lastVersion}
+use Rattle.stream.specs.Stream.{fits}
+use Rattle.writer.specs.Writer.{taken, frontOr0}
+use Rattle.writer.specs.Promise.{NoFit, FitRule, FitRules}
+
+-- the first of a, .., a + n - 1 that passes a test
+module _ (test : ℕ → Bool) where
+  -- x is the first, or 0 and there is none
+  record First (a n x : ℕ) : Type 0 where
+    none : x ≡ 0 → (v : ℕ) → a ≤ v → v < a + n → test v ≡ false
+    some : x ≢ 0 → (test x ≡ true) × ((a ≤ x) × (x < a + n))
+    before : (v : ℕ) → a ≤ v → v < x → test v ≡ false
+
+  first : (a n : ℕ) → 0 < a → First a n (frontOr0 (keep test (from a n)))
+  unfolding from keep
+  first a zero h =
+      record { none = λ e v l m. absurd (omega arith); some = λ e. absurd (e refl); before = λ v l m. absurd (omega arith) }
+  first a (suc n) h = by-test (test a) refl (first (suc a) n (omega arith))
+    where
+      by-test : (b : Bool) → test a ≡ b → First (suc a) n (frontOr0 (keep test (from (suc a) n)))
+          → First a (suc n) (frontOr0 (cond b (a ∷ keep test (from (suc a) n)) (keep test (from (suc a) n))))
+      by-test true t f =
+          record {
+            none = λ e. absurd (omega arith);
+            some = λ e. (t, (omega arith, omega arith));
+            before = λ v l m. absurd (omega arith);
+          }
+      by-test false t f =
+          record {
+            none = λ e v l m. by-cases (ℕ-discrete v a) (λ (q : v ≡ a). rw q t) (λ q. f .none e v (omega arith) (omega arith));
+            some = λ e. (f .some e .0, (omega (arith, f .some e .1), omega (arith, f .some e .1)));
+            before = λ v l m. by-cases (ℕ-discrete v a) (λ (q : v ≡ a). rw q t) (λ q. f .before v (omega arith) m);
+          }
+
+-- the version taken where none is named
+taken-least : (level : ℕ) (list : List ℕ) → First (λ v. fits v level list) 1 lastVersion (taken level 0 list)
+unfolding taken
+taken-least level list = first (λ v. fits v level list) 1 lastVersion (omega arith)
+
+-- and where one is
+taken-named : (level version : ℕ) (list : List ℕ) → version ≢ 0
+    → ((fits version level list ≡ true) × (taken level version list ≡ version)) ⊎ ((fits version level list ≡ false) × (taken level version list ≡ 0))
+unfolding taken keep
+taken-named level version list h = rw (ne-eqb version 0 h) (by-test (fits version level list) refl)
+  where
+    by-test : (b : Bool) → fits version level list ≡ b
+        → ((fits version level list ≡ true) × (frontOr0 (cond b (version ∷ []) []) ≡ version)) ⊎ ((fits version level list ≡ false) × (frontOr0 (cond b (version ∷ []) []) ≡ 0))
+    by-test true t = inl (t, refl)
+    by-test false t = inr (t, refl)
+
+fit-least : (level : ℕ) (list : List ℕ) → FitRule level 0 list
+fit-least level list =
+    let f = taken-least level list in
+    let inside : taken level 0 list ≤ lastVersion =
+    by-cases (ℕ-discrete (taken level 0 list) 0) (λ e. omega arith) (λ n. omega (arith, f .some n .1)) in
+    record {
+      none = (
+        λ e v l m n. f .none e v l (omega arith),
+        λ n. by-cases (ℕ-discrete (taken level 0 list) 0) (λ e. e)
+            (λ q. absurd (true≢false (sym (f .some q .0) ∙ n (taken level 0 list) (f .some q .1 .0) inside (λ z. absurd (z refl))))),
+      );
+      within = inside;
+      takes = λ n. f .some n .0;
+      named = λ n. absurd (n refl);
+      least = f .before;
+    }
+
+fit-named : (level version : ℕ) (list : List ℕ) → version ≤ lastVersion → version ≢ 0 → FitRule level version list
+fit-named level version list h z =
+    ⊎-elim
+    (λ (t : (fits version level list ≡ true) × (taken level version list ≡ version)).
+    record {
+      none = (
+        λ e. absurd (z (sym (t .1) ∙ e)),
+        λ n. absurd (true≢false (sym (t .0) ∙ n version (omega (arith, z)) h (λ _. refl))),
+      );
+      within = omega (arith, t .1);
+      takes = λ _. rw (t .1) (t .0);
+      named = λ _ _. t .1;
+      least = taken-least level list .before;
+    })
+    (λ (t : (fits version level list ≡ false) × (taken level version list ≡ 0)).
+    record {
+      none = (λ _ v l m n. rw (n z) (t .0), λ _. t .1);
+      within = omega (arith, t .1);
+      takes = λ n. absurd (n (t .1));
+      named = λ _ n. absurd (n (t .1));
+      least = taken-least level list .before;
+    })
+    (taken-named level version list z)
+
+-- "version (1 to 10, or 0 for the smallest v that fits)"
+pub fit-rule : FitRules
+fit-rule level version list h =
+    by-cases (ℕ-discrete version 0) (λ (e : version ≡ 0). rw e (fit-least level list)) (fit-named level version list h)
