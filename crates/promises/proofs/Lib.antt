@@ -1,3 +1,4 @@
 pub mod Damage
 pub mod Drawn
+pub mod Lawful
 pub mod Same
