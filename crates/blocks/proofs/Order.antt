@@ -12,7 +12,7 @@ use lib.ListN.{length, getD}
 use Rattle.basics.specs.Lists.{from, upTo, keep, joined}
 use Rattle.basics.proofs.Test.{both, all, at, grid}
 use Rattle.tables.specs.Tables.{totals, checkRows, blockRows, total, checkCount, blockCount, dataCount, shortLength, shortBlocks, blockData, blockLength, Lawful}
-use Rattle.blocks.specs.Blocks.{Cell, sentData, sentChecks, sentOrder, sentPlace}
+use Rattle.blocks.specs.Blocks.{Cell, sentData, sentChecks, sentOrder, placeBy, sentPlace}
 
 -- both tests passed
 two : (a b : Bool) → T (both a b) → T a × T b
@@ -40,7 +40,7 @@ allPlaced : (v level : ℕ) → List Cell → Bool
 allPlaced v level order = all (blockCount v level) (λ b. all (blockLength v level b) (placed v level order b))
 
 tested-placed : T (all 11 (λ v. all 4 (λ level. allPlaced v level (sentOrder v level))))
-unfolding from upTo keep joined totals checkRows blockRows total checkCount blockCount dataCount shortLength shortBlocks blockData blockLength sentData sentChecks sentOrder sentPlace none is placed allPlaced
+unfolding from upTo keep joined totals checkRows blockRows total checkCount blockCount dataCount shortLength shortBlocks blockData blockLength sentData sentChecks sentOrder placeBy sentPlace none is placed allPlaced
 tested-placed = tt
 
 -- ---- each place is that of a codeword
@@ -56,7 +56,7 @@ passed v level q [] = eqb q (total v)
 passed v level q (c ∷ cs) = both (stood v level q c) (passed v level (suc q) cs)
 
 tested-passed : T (all 11 (λ v. all 4 (λ level. passed v level 0 (sentOrder v level))))
-unfolding from upTo keep joined totals checkRows blockRows total checkCount blockCount dataCount shortLength shortBlocks blockData blockLength sentData sentChecks sentOrder sentPlace stood passed
+unfolding from upTo keep joined totals checkRows blockRows total checkCount blockCount dataCount shortLength shortBlocks blockData blockLength sentData sentChecks sentOrder placeBy sentPlace stood passed
 tested-passed = tt
 
 pub record Stood (v level q : ℕ) (c : Cell) : Type 0 where

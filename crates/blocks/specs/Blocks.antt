@@ -3,10 +3,10 @@
 use mathlib.Core.Bool.{true, cond}
 use mathlib.Core.List.{List, [], _++_, map}
 use Prim.Native.Nat.{ℕ, _+_, _-_, _*_}
-use lib.Dec.{ltb}
+use lib.Dec.{ltb, leb}
 use lib.ListN.{length, getD, take, drop}
 use Rattle.basics.specs.Lists.{upTo, keep, joined}
-use Rattle.basics.specs.Sums.{sum}
+use Rattle.basics.specs.Sums.{one, sum}
 use Rattle.basics.specs.Walk.{walked}
 use Rattle.tables.specs.Tables.{blockCount, checkCount, dataCount, shortLength, shortBlocks, blockData, blockStart, blockLength}
 use Rattle.code.specs.Code.{checks}
@@ -45,12 +45,15 @@ inOrder v level blocks = map (λ c. getD (getD blocks (c .of) []) (c .at) 0) (se
 unfoldable pub sent : (v level : ℕ) (codewords : List ℕ) → List ℕ
 sent v level codewords = inOrder v level (map (block v level codewords) (upTo (blockCount v level)))
 
--- the place in the sent order of codeword p of block b, in closed form
+-- the place in the sent order of codeword p of block b, in closed form: D data codewords in B blocks, short in each of the first few and one more in the others
+unfoldable pub placeBy : (D B short few b p : ℕ) → ℕ
+placeBy D B short few b p =
+    let held = short + one (leb few b) in
+    let row = cond (ltb p short) (p * B + b) (p * B + (b - few)) in
+    cond (ltb p held) row (D + (p - held) * B + b)
+
 unfoldable pub sentPlace : (v level b p : ℕ) → ℕ
-sentPlace v level b p =
-    let B = blockCount v level in
-    let row = cond (ltb p (shortLength v level)) (p * B + b) (p * B + (b - shortBlocks v level)) in
-    cond (ltb p (blockData v level b)) row (dataCount v level + (p - blockData v level b) * B + b)
+sentPlace v level b p = placeBy (dataCount v level) (blockCount v level) (shortLength v level) (shortBlocks v level) b p
 
 -- a list with codewords put at their places
 unfoldable pub dealt : (place : ℕ → ℕ) (codewords out : List ℕ) → List ℕ

@@ -4,19 +4,19 @@ ghost use Prim.Native.Nat.{_+_, _*_, _≤_, _<_};
 ghost use lib.ListN.{length, getD};
 ghost use Rattle.tables.specs.Tables.{Lawful, total, checkCount, blockCount, dataCount, blockData, blockLength};
 ghost use Rattle.code.specs.Code.{checks};
-ghost use Rattle.blocks.specs.Blocks.{withChecks, sent, dealt, sentPlace, gathered, gatheredAll, blockOf, dataOf};
-ghost use Rattle.blocks.specs.Sizes.{Modest, sizesOf, placeBy};
+ghost use Rattle.blocks.specs.Blocks.{withChecks, sent, placeBy, dealt, sentPlace, gathered, gatheredAll, blockOf, dataOf};
+ghost use Rattle.blocks.specs.Sizes.{Modest, sizesOf};
 
 // The most checks that the blocks of any version and level have together.
 pub const ALL_CHECKS: usize = 224;
 
 // What the version table says of the blocks of a version and a level: all data codewords, the blocks, the data codewords of a
-// short block, and the first block that holds one more.
+// short block, and how many are short. The blocks after those hold one more.
 pub struct Sizes {
     pub held: usize,
     pub blocks: usize,
     pub short: usize,
-    pub long: usize,
+    pub few: usize,
 }
 
 // The numbers of a version and a level.
@@ -27,12 +27,12 @@ fn sizes_of(v: usize, level: usize) -> Sizes
     let held = tables::data(v, level);
     let blocks = tables::blocks(v, level);
     let short = tables::short_length(v, level);
-    let long = tables::short_blocks(v, level);
+    let few = tables::short_blocks(v, level);
     Sizes {
         held,
         blocks,
         short,
-        long,
+        few,
     }
 }
 
@@ -47,16 +47,16 @@ fn in_row(blocks: usize, p: usize, b: usize) -> usize
 // The place in the sent order of codeword p of block b.
 fn place(s: Sizes, b: usize, p: usize) -> usize
     requires { ⌜ Modest s × ((b < 8) × (p < 256)) ⌝ }
-    ensures { λ r. ⌜ r ≡ placeBy s b p ⌝ }
+    ensures { λ r. ⌜ r ≡ placeBy (s .held) (s .blocks) (s .short) (s .few) b p ⌝ }
 {
     if p < s.short {
         return in_row(s.blocks, p, b);
     }
-    if b < s.long {
+    if b < s.few {
         return s.held + in_row(s.blocks, p - s.short, b);
     }
     if p == s.short {
-        return in_row(s.blocks, p, b - s.long);
+        return in_row(s.blocks, p, b - s.few);
     }
     s.held + in_row(s.blocks, p - (s.short + 1), b)
 }
@@ -131,12 +131,12 @@ pub fn gather(sent: &[u8], v: usize, level: usize, out: &mut [u8])
 {
     let blocks = tables::blocks(v, level);
     let mut a: usize = 0;
-    let mut b: usize = 0;
-    while b < blocks {
-        let e = a + tables::block_length(v, level, b);
-        gather_block(sent, v, level, b, &mut out[a..e]);
+    let mut block: usize = 0;
+    while block < blocks {
+        let e = a + tables::block_length(v, level, block);
+        gather_block(sent, v, level, block, &mut out[a..e]);
         a = e;
-        b += 1;
+        block += 1;
     }
 }
 

@@ -28,12 +28,12 @@ abbrev μ-loop : tie.MeasureT-loop
 room : (c : tie.After-block-length Inv-loop μ-loop)
     → let a = c .before .before .before .before .before .before .args in
     let l = c .before .before .loop in
-    (l .b < blockCount (a .v) (a .level)) × (l .a + c .block-length .result ≤ length (l .out))
+    (l .block < blockCount (a .v) (a .level)) × (l .a + c .block-length .result ≤ length (l .out))
 room c =
     let start = c .before .before .before .before .before .before in
     let l = c .before .before .loop in
-    let next : l .b < blockCount (start .args .v) (start .args .level) = omega (arith, c .before .before .before .blocks2 .ensures) in
-    (next, omega (arith, offset-end (start .args .v) (start .args .level) (start .pre .0) (l .b) next, c .block-length .ensures))
+    let next : l .block < blockCount (start .args .v) (start .args .level) = omega (arith, c .before .before .before .blocks2 .ensures) in
+    (next, omega (arith, offset-end (start .args .v) (start .args .level) (start .pre .0) (l .block) next, c .block-length .ensures))
 
 blocks-requires : tie.Need-blocks-requires Inv-loop μ-loop
 blocks-requires c κs = c .before .before .pre .0
@@ -63,8 +63,8 @@ gather-block-requires c κs =
     let k = c .before in
     ((start .pre .0, (room k .0, length-part _ _ _ (room k .1) ∙ k .block-length .ensures)), start .pre .1 .0)
 
-add-b : tie.Need-add-b Inv-loop μ-loop
-add-b c = omega arith
+add-block : tie.Need-add-block Inv-loop μ-loop
+add-block c = omega arith
 
 loop-less : tie.Need-loop-less Inv-loop μ-loop
 loop-less c = omega arith
@@ -75,13 +75,13 @@ loop-again c =
     let l = c .before .before .before .before .before .before .loop in
     let k = c .before .before .before .before in
     let ys = c .before .before .gather-block .last .1 .1 .1 .1 .0 in
-    let long : k .block-length .result ≡ blockLength (a .v) (a .level) (l .b) = k .block-length .ensures in (
+    let long : k .block-length .result ≡ blockLength (a .v) (a .level) (l .block) = k .block-length .ensures in (
       omega (arith, room k),
       (
-        rw add-one (omega (arith, offset-next (a .v) (a .level) (l .b))),
+        rw add-one (omega (arith, offset-next (a .v) (a .level) (l .block))),
         (
-          length-lent _ ys _ _ (room k .1) (gathered-long (a .v) (a .level) _ (l .b) ys (c .before .before .gather-block .ensures) ∙ sym long) ∙ l .inv .1 .1 .0,
-          fill-more (gathered (a .v) (a .level) (λ q. getD (a .sent .now) q 0)) (blockLength (a .v) (a .level)) (l .out) (a .out .now) ys (l .b) (l .a)
+          length-lent _ ys _ _ (room k .1) (gathered-long (a .v) (a .level) _ (l .block) ys (c .before .before .gather-block .ensures) ∙ sym long) ∙ l .inv .1 .1 .0,
+          fill-more (gathered (a .v) (a .level) (λ q. getD (a .sent .now) q 0)) (blockLength (a .v) (a .level)) (l .out) (a .out .now) ys (l .block) (l .a)
               (k .block-length .result) (λ j h. length-gathered (a .v) (a .level) _ j) (offset-sum _ _ _ _ (l .inv .1 .0)) (l .inv .1 .1 .1) (c .before .before .gather-block .ensures),
         ),
       ),
@@ -96,7 +96,7 @@ returns c =
     let start = c .before .before .before .before .before in
     let l = c .before .loop in
     let a = start .args in
-    fill-all (gathered (a .v) (a .level) (λ q. getD (a .sent .now) q 0)) (blockLength (a .v) (a .level)) (l .out) (a .out .now) (l .b) (l .a) _ (l .inv .1 .1 .1)
+    fill-all (gathered (a .v) (a .level) (λ q. getD (a .sent .now) q 0)) (blockLength (a .v) (a .level)) (l .out) (a .out .now) (l .block) (l .a) _ (l .inv .1 .1 .1)
     (offset-sum _ _ _ _ (l .inv .1 .0)) (le-antisymm (l .inv .0) (c .loop-test .left) ∙ c .before .before .blocks2 .ensures)
     (length-sum (a .v) (a .level) (start .pre .0) ∙ sym (start .pre .1 .1))
 
@@ -114,7 +114,7 @@ gather-spec =
     part-gather-block-start
     part-gather-block-end
     gather-block-requires
-    add-b
+    add-block
     loop-less
     loop-again
     same-length

@@ -12,7 +12,7 @@ in-row-requires : tie.Need-in-row-requires
 in-row-requires c κs = search needs
 
 returns : tie.Need-returns
-returns c = c .in-row .ensures .0 ∙ sym (in-short _ _ _ (omega arith))
+returns c = c .in-row .ensures .0 ∙ sym (in-short _ _ _ _ _ _ (omega arith))
 
 in-row-requires-2 : tie.Need-in-row-requires-2
 in-row-requires-2 c κs = search needs
@@ -23,13 +23,13 @@ add-result c = search needs
 returns-2 : tie.Need-returns-2
 returns-2 c =
     let a = c .before .before .before .before .before .before .before .args in
-    ap (λ (x : ℕ). a .s .held + x) (c .before .in-row2 .ensures .0) ∙ sym (short-check (a .s) (a .b) (a .p) (omega arith) (omega arith))
+    ap (λ (x : ℕ). a .s .held + x) (c .before .in-row2 .ensures .0) ∙ sym (short-check (a .s .held) (a .s .blocks) (a .s .short) (a .s .few) (a .b) (a .p) (omega arith) (omega arith))
 
 in-row-requires-3 : tie.Need-in-row-requires-3
 in-row-requires-3 c κs = search needs
 
 returns-3 : tie.Need-returns-3
-returns-3 c = c .in-row3 .ensures .0 ∙ sym (in-last _ _ _ (omega arith) (omega arith))
+returns-3 c = c .in-row3 .ensures .0 ∙ sym (in-last _ _ _ _ _ _ (omega arith) (omega arith))
 
 add-in-row : tie.Need-add-in-row
 add-in-row c = search needs
@@ -46,7 +46,7 @@ add-result-2 c = search needs
 returns-4 : tie.Need-returns-4
 returns-4 c =
     let a = c .before .before .before .before .before .before .before .before .before .args in
-    ap (λ (x : ℕ). a .s .held + x) (c .before .in-row4 .ensures .0) ∙ sym (long-check (a .s) (a .b) (a .p) (omega arith) (omega arith))
+    ap (λ (x : ℕ). a .s .held + x) (c .before .in-row4 .ensures .0) ∙ sym (long-check (a .s .held) (a .s .blocks) (a .s .short) (a .s .few) (a .b) (a .p) (omega arith) (omega arith))
 
 pub place-spec : {M : Type 1} → statement M
 place-spec =
