@@ -1,4 +1,5 @@
 pub mod Damage
 pub mod Drawn
 pub mod Lawful
+pub mod ReadBack
 pub mod Same
