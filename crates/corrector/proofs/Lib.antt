@@ -1,0 +1,11 @@
+pub mod Late
+pub mod Rows
+pub mod Running
+pub mod Erasing
+pub mod Listing
+pub mod Turns
+pub mod Mending
+pub mod Picked
+pub mod Finding
+pub mod Counting
+pub mod Testing

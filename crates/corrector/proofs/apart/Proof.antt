@@ -1,0 +1,19 @@
+-- `corrector::apart` meets its contract. Assumes nothing.
+use borrow.Author.Needs.{needs}
+use borrow.Author.Tests.{eq-eqb, ne-eqb}
+use Rattle.corrector.proofs.apart.Statement.{statement}
+use Rattle.corrector.proofs.apart.Tie as tie
+use Rattle.corrector.proofs.apart.Reads as reads
+use Rattle.corrector.proofs.apart.Lts as lts
+
+returns : tie.Need-returns
+returns c = rw (ne-eqb _ _ (c .if1 .taken))
+
+returns-2 : tie.Need-returns-2
+returns-2 c = rw (eq-eqb _ _ (c .before .if1 .left), eq-eqb _ _ (c .if2 .taken))
+
+returns-3 : tie.Need-returns-3
+returns-3 c = rw (eq-eqb _ _ (c .before .if1 .left), ne-eqb _ _ (c .if2 .left))
+
+pub apart-spec : {M : Type 1} → statement M
+apart-spec = tie.close (tie.spec returns returns-2 returns-3)

@@ -1,0 +1,81 @@
+-- `corrector::evaluator` meets its contract. Assumes nothing.
+use borrow.Author.Needs.{needs}
+use Prim.Native.Nat.{ℕ, _+_, _-_, _≤_, _<_}
+use mathlib.Core.Path.{_≡_, refl, sym, ap, ap₂, _∙_}
+use native.Mathlib.Omega.{arith}
+use mir.Val.{Fits}
+use mir.Syntax.{w8}
+use lib.ListN.{length, getD}
+use Rattle.theory.proofs.Gf.{gf256}
+use Rattle.corrector.specs.Lanes.{filled, timesPlus, poly}
+use Rattle.corrector.proofs.Rows.{Row, zeros-row, unit-row}
+use Rattle.theory.proofs.Values.{evaluator}
+use Rattle.corrector.proofs.Turns.{Summed, summed-start, summed-turn}
+use Rattle.corrector.proofs.evaluator.Statement.{statement}
+use Rattle.corrector.proofs.evaluator.Tie as tie
+use Rattle.corrector.proofs.evaluator.Reads as reads
+use Rattle.corrector.proofs.evaluator.Lts as lts
+use Rattle.corrector.proofs.lower.Reads as lower-reads
+use Rattle.corrector.proofs.times_plus.Reads as times-plus-reads
+
+abbrev Inv-loop : tie.InvT-loop
+Inv-loop a s r₀ k₀ r k = Row r × (k ≤ 32) × Summed a s r k
+
+abbrev μ-loop : tie.MeasureT-loop
+μ-loop a s r₀ k₀ r k = 32 - k
+
+loop-holds : tie.Need-loop-holds Inv-loop μ-loop
+unfolding filled
+loop-holds c = (zeros-row, omega arith, summed-start (c .args .a) (c .args .t2))
+
+add-lower : tie.Need-add-lower Inv-loop μ-loop
+add-lower c = search needs
+
+lower-requires : tie.Need-lower-requires Inv-loop μ-loop
+lower-requires c κs = search needs
+
+array-read-factor : tie.Need-array-read-factor Inv-loop μ-loop
+array-read-factor c = search needs
+
+times-plus-requires : tie.Need-times-plus-requires Inv-loop μ-loop
+times-plus-requires c κs = search needs
+
+add-k : tie.Need-add-k Inv-loop μ-loop
+add-k c = search needs
+
+loop-less : tie.Need-loop-less Inv-loop μ-loop
+loop-less c = search needs
+
+loop-again : tie.Need-loop-again Inv-loop μ-loop
+unfolding filled
+loop-again c =
+    let l = c .before .before .before .loop in
+    let start = c .before .before .before .before in
+    let a = start .args .a in
+    let s = start .args .t2 in
+    let t = c .times-plus .result in
+    let made : t ≡ timesPlus _ (filled (getD s (l .k) 0)) (l .r) = c .times-plus .ensures ∙ ap (λ u. timesPlus u (filled (getD s (l .k) 0)) (l .r)) (c .before .lower .ensures) in
+    (record { long = search needs; bytes = λ h. let f : Fits w8 (getD t h 0) = search needs in omega (arith, f) }, omega arith, λ h. ap (λ u. poly u h) made ∙ summed-turn a s (l .r) (l .k) (λ h. let f : Fits w8 (getD a h 0) = search needs in omega (arith, f)) (search needs) (l .inv .0 .long) (l .inv .2) h)
+
+returns : tie.Need-returns Inv-loop μ-loop
+unfolding evaluator
+returns c =
+    let l = c .before .loop in
+    let e : l .k ≡ 32 = omega arith in
+    rw e at (l .inv .2)
+
+pub evaluator-spec : {M : Type 1} → statement M
+evaluator-spec =
+    tie.close
+    (tie.spec
+    Inv-loop
+    μ-loop
+    loop-holds
+    add-lower
+    lower-requires
+    array-read-factor
+    times-plus-requires
+    add-k
+    loop-less
+    loop-again
+    returns)

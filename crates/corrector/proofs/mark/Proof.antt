@@ -1,0 +1,16 @@
+-- `corrector::mark` meets its contract. Assumes nothing.
+use borrow.Author.Needs.{needs}
+use borrow.Author.Tests.{eq-eqb, ne-eqb}
+use Rattle.corrector.proofs.mark.Statement.{statement}
+use Rattle.corrector.proofs.mark.Tie as tie
+use Rattle.corrector.proofs.mark.Reads as reads
+use Rattle.corrector.proofs.mark.Lts as lts
+
+returns : tie.Need-returns
+returns c = rw (eq-eqb _ _ (c .if1 .taken))
+
+returns-2 : tie.Need-returns-2
+returns-2 c = rw (ne-eqb _ _ (c .if1 .left))
+
+pub mark-spec : {M : Type 1} → statement M
+mark-spec = tie.close (tie.spec returns returns-2)

@@ -1,0 +1,40 @@
+-- What the corrector answers.
+-- Assumes nothing.
+use mathlib.Core.Path.{_≡_}
+use mathlib.Core.List.{List}
+use Prim.Native.Nat.{ℕ, _≤_, _<_}
+use lib.ListN.{length, getD}
+use Rattle.corrector.specs.declared.Counts.{Counts}
+use Rattle.corrector.specs.declared.Correction.{Correction}
+use Rattle.corrector.specs.declared.Correction.the-variants.{Stood, NoneStands}
+use Rattle.code.specs.Code.{Stands, unreadable, syndromesOf}
+
+-- a block with a flag for each codeword, its syndromes, and how many codewords are unreadable, no more than there are checks
+pub record Asked (word flags s : List ℕ) (n e : ℕ) : Type 0 where
+  pub flagged : length flags ≡ length word
+  pub short : length word ≤ 255
+  pub checks : n ≤ 30
+  pub missing : e ≡ unreadable flags
+  pub few : e ≤ n
+  pub sums : s ≡ syndromesOf n word
+
+-- a codeword that the block stands for is this one
+abbrev pub Proposed : (n : ℕ) (word flags r : List ℕ) → Type 0
+Proposed n word flags r = (room : ℕ) (c : List ℕ) (t e : ℕ) → room ≤ n → Stands n room word flags c t e → (j : ℕ) → j < length word → getD r j 0 ≡ getD c j 0
+
+-- the first entry that is not 0, or 32
+pub record First (s : List ℕ) (r : ℕ) : Type 0 where
+  pub most : r ≤ 32
+  pub before : (k : ℕ) → k < r → getD s k 0 ≡ 0
+  pub here : r < 32 → getD s r 0 ≡ 0 → ⊥
+
+-- the block stands for c with these counts, or with none
+abbrev pub Tested : (n room : ℕ) (word flags c : List ℕ) → Correction → Type 0
+Tested n room word flags c (Stood k) = Stands n room word flags c (k .differing) (k .unreadable)
+Tested n room word flags c NoneStands = (t e : ℕ) → Stands n room word flags c t e → ⊥
+
+-- "the bound is 2t + e ≤ n at every version and level": the word holds then the codeword that the block stands for, with its t and e; or there is none,
+-- and the word is as it was
+abbrev pub Corrected : (n room : ℕ) (word flags exit : List ℕ) → Correction → Type 0
+Corrected n room word flags exit (Stood k) = Stands n room word flags exit (k .differing) (k .unreadable)
+Corrected n room word flags exit NoneStands = (exit ≡ word) × ((c : List ℕ) (t e : ℕ) → Stands n room word flags c t e → ⊥)

@@ -1,0 +1,3 @@
+pub mod Correct
+pub mod Lanes
+pub mod Places
