@@ -8,10 +8,11 @@ use native.Mathlib.Nat.{add-sub-cancel-left}
 use native.Mathlib.Numerals.{add-one}
 use native.Mathlib.Omega.{arith}
 use lib.ListN.{length, getD, take, drop, length-drop, drop-of-length-le}
-use lib.Seq.{drop-cons, drop-drop, drop-nil}
+use lib.Seq.{drop-cons, drop-drop, length-take-le}
 use Rattle.basics.specs.Lists.{each}
 use Rattle.basics.specs.Bits.{bits}
 use Rattle.tables.specs.Tables.{countWidth}
+use Rattle.stream.specs.Put.{segmentBits}
 use Rattle.stream.specs.Stream.{known, inMode, lawfulList, counts, lawfulCharacters, body, bodyWidth, segments, segmentsWidth}
 
 pub pair : (l : List ℕ) (i : ℕ) → i + 1 < length l → drop i l ≡ getD l i 0 ∷ getD l (i + 1) 0 ∷ drop (i + 2) l
@@ -117,3 +118,11 @@ module _ (l : List ℕ) (i : ℕ) where
   pub segments-none : (v : ℕ) (s : List ℕ) → length l ≤ i + 1 → segments v (drop i l) s ≡ []
   unfolding segments
   segments-none v s h = few (λ r. segments v r s) [] refl (λ x. refl) l i h
+
+  -- the segment that a pair names, and the segments after it
+  pub segments-piece : (v : ℕ) (s : List ℕ) (p count mode : ℕ) → i + 1 < length l → p + counts (drop i l) ≤ length s → count ≡ getD l (i + 1) 0 → mode ≡ getD l i 0
+      → segments v (drop i l) (drop p s)
+      ≡ segmentBits v mode (take (p + count - p) (drop p s)) ++ segments v (drop (i + 2) l) (drop (p + count) s)
+  segments-piece v s p count mode h r e m =
+      let whole : length (take count (drop p s)) ≡ count = length-take-le count (drop p s) (rw length-drop (omega (arith, counts-more h))) in
+      segments-more v s p h ∙ rw (← m, ← e, add-sub-cancel-left p count, whole)
