@@ -2,12 +2,12 @@
 -- Assumes nothing.
 use mathlib.Core.Path.{_≡_, refl, sym, ap, _∙_}
 use mathlib.Core.Bool.{Bool, true, false, cond, true≢false}
-use mathlib.Core.Logic.{_≢_, _⊎_, inl, inr, ⊎-elim, by-cases}
+use mathlib.Core.Logic.{_≢_, by-cases}
 use mathlib.Core.List.{List, [], _∷_}
 use Prim.Native.Nat.{ℕ, zero, suc, _+_, _≤_, _<_}
 use native.Mathlib.Decide.{ℕ-discrete}
 use native.Mathlib.Omega.{arith}
-use borrow.Author.Tests.{eq-eqb, ne-eqb}
+use borrow.Author.Tests.{ne-eqb}
 use lib.Dec.{eqb}
 use Rattle.basics.specs.Lists.{from, keep}
 use Rattle.tables.specs.Tables.{lastVersion}
@@ -49,16 +49,25 @@ taken-least : (level : ℕ) (list : List ℕ) → First (λ v. fits v level list
 unfolding taken
 taken-least level list = first (λ v. fits v level list) 1 lastVersion (omega arith)
 
+-- a version that fits, where no smaller one does, is that version
+pub taken-first : (level v : ℕ) (list : List ℕ) → 1 ≤ v → v ≤ lastVersion → fits v level list ≡ true
+    → ((k : ℕ) → 1 ≤ k → k < v → fits k level list ≡ false) → taken level 0 list ≡ v
+taken-first level v list l m t before =
+    let f = taken-least level list in
+    let some : taken level 0 list ≢ 0 = λ e. true≢false (sym t ∙ f .none e v l (omega arith)) in
+    let not-above : v < taken level 0 list → ⊥ = λ h. true≢false (sym t ∙ f .before v l h) in
+    let not-below : taken level 0 list < v → ⊥ = λ h. true≢false (sym (f .some some .0) ∙ before (taken level 0 list) (f .some some .1 .0) h) in
+    omega arith
+
 -- and where one is
-taken-named : (level version : ℕ) (list : List ℕ) → version ≢ 0
-    → ((fits version level list ≡ true) × (taken level version list ≡ version)) ⊎ ((fits version level list ≡ false) × (taken level version list ≡ 0))
-unfolding taken keep
-taken-named level version list h = rw (ne-eqb version 0 h) (by-test (fits version level list) refl)
-  where
-    by-test : (b : Bool) → fits version level list ≡ b
-        → ((fits version level list ≡ true) × (frontOr0 (cond b (version ∷ []) []) ≡ version)) ⊎ ((fits version level list ≡ false) × (frontOr0 (cond b (version ∷ []) []) ≡ 0))
-    by-test true t = inl (t, refl)
-    by-test false t = inr (t, refl)
+module _ (level version : ℕ) (list : List ℕ) (is-named : version ≢ 0) where
+  pub taken-named : fits version level list ≡ true → taken level version list ≡ version
+  unfolding taken keep
+  taken-named t = rw (ne-eqb version 0 is-named, t)
+
+  pub taken-refused : fits version level list ≡ false → taken level version list ≡ 0
+  unfolding taken keep
+  taken-refused t = rw (ne-eqb version 0 is-named, t)
 
 fit-least : (level : ℕ) (list : List ℕ) → FitRule level 0 list
 fit-least level list =
@@ -77,29 +86,31 @@ fit-least level list =
       least = f .before;
     }
 
+pub taken-none : (level : ℕ) (list : List ℕ) → ((k : ℕ) → 1 ≤ k → k ≤ lastVersion → fits k level list ≡ false) → taken level 0 list ≡ 0
+taken-none level list none = fit-least level list .none .1 (λ v l m n. none v l m)
+
 fit-named : (level version : ℕ) (list : List ℕ) → version ≤ lastVersion → version ≢ 0 → FitRule level version list
-fit-named level version list h z =
-    ⊎-elim
-    (λ (t : (fits version level list ≡ true) × (taken level version list ≡ version)).
-    record {
-      none = (
-        λ e. absurd (z (sym (t .1) ∙ e)),
-        λ n. absurd (true≢false (sym (t .0) ∙ n version (omega (arith, z)) h (λ _. refl))),
-      );
-      within = omega (arith, t .1);
-      takes = λ _. rw (t .1) (t .0);
-      named = λ _ _. t .1;
-      least = taken-least level list .before;
-    })
-    (λ (t : (fits version level list ≡ false) × (taken level version list ≡ 0)).
-    record {
-      none = (λ _ v l m n. rw (n z) (t .0), λ _. t .1);
-      within = omega (arith, t .1);
-      takes = λ n. absurd (n (t .1));
-      named = λ _ n. absurd (n (t .1));
-      least = taken-least level list .before;
-    })
-    (taken-named level version list z)
+fit-named level version list h z = by-test (fits version level list) refl
+  where
+    by-test : (b : Bool) → fits version level list ≡ b → FitRule level version list
+    by-test true t =
+        let e = taken-named level version list z t in
+        record {
+          none = (λ n. absurd (z (sym e ∙ n)), λ n. absurd (true≢false (sym t ∙ n version (omega (arith, z)) h (λ _. refl))));
+          within = omega arith;
+          takes = λ _. rw e t;
+          named = λ _ _. e;
+          least = taken-least level list .before;
+        }
+    by-test false t =
+        let e = taken-refused level version list z t in
+        record {
+          none = (λ _ v l m n. rw (n z) t, λ _. e);
+          within = omega arith;
+          takes = λ n. absurd (n e);
+          named = λ _ n. absurd (n e);
+          least = taken-least level list .before;
+        }
 
 -- "version (1 to 10, or 0 for the smallest v that fits)"
 pub fit-rule : FitRules

@@ -6,12 +6,12 @@ use mathlib.Core.Logic.{_≢_, _⊎_, inl, inr, ⊎-elim}
 use mathlib.Core.List.{List}
 use Prim.Native.Nat.{ℕ, _*_, _≤_, _<_}
 use native.Mathlib.Omega.{arith}
-use borrow.Author.Tests.{leb-true, leb-false, eqb-true, eqb-false}
+use borrow.Author.Tests.{leb-true, leb-false, eqb-true, eqb-false, le-leb, lt-leb}
 use lib.Dec.{leb, eqb}
 use lib.ListN.{length}
 use Rattle.tables.specs.Tables.{side, lastVersion}
 use Rattle.stream.specs.Stream.{lawfulList, counts, lawfulCharacters}
-use Rattle.writer.specs.Writer.{Request, taken, unless, refusal}
+use Rattle.writer.specs.Writer.{Request, inRange, taken, unless, refusal}
 use Rattle.writer.specs.Promise.{Next, BadNumber, BadList, BadCounts, BadCharacter, NoFit, Short, Refusals}
 use Rattle.writer.proofs.Faults.{and-left, and-right, and-fails, list-lawful, list-faulty, characters-lawful, characters-faulty}
 use Rattle.writer.proofs.Fit.{fit-rule}
@@ -23,8 +23,9 @@ next true n k fault later clean found rest = inr (clean refl, rest refl)
 next false n k fault later clean found rest = inl (found refl, refl)
 
 -- the three numbers are in their ranges
-numbers-right : (r : Request) → leb (r .level) 3 && leb (r .version) lastVersion && leb (r .mask) 8 ≡ true
+pub numbers-right : (r : Request) → inRange (r .level) (r .version) (r .mask) ≡ true
     → (r .level ≤ 3) × ((r .version ≤ lastVersion) × (r .mask ≤ 8))
+unfolding inRange
 numbers-right r e =
     let two = and-left (leb (r .level) 3 && leb (r .version) lastVersion) (leb (r .mask) 8) e in (
       leb-true (r .level) 3 (and-left (leb (r .level) 3) (leb (r .version) lastVersion) two),
@@ -34,12 +35,13 @@ numbers-right r e =
       ),
     )
 
-numbers-clean : (r : Request) → leb (r .level) 3 && leb (r .version) lastVersion && leb (r .mask) 8 ≡ true → BadNumber r → ⊥
+numbers-clean : (r : Request) → inRange (r .level) (r .version) (r .mask) ≡ true → BadNumber r → ⊥
 numbers-clean r e (inl l) = omega (arith, numbers-right r e)
 numbers-clean r e (inr (inl v)) = omega (arith, numbers-right r e)
 numbers-clean r e (inr (inr m)) = omega (arith, numbers-right r e)
 
-numbers-found : (r : Request) → leb (r .level) 3 && leb (r .version) lastVersion && leb (r .mask) 8 ≡ false → BadNumber r
+numbers-found : (r : Request) → inRange (r .level) (r .version) (r .mask) ≡ false → BadNumber r
+unfolding inRange
 numbers-found r e =
     ⊎-elim
     (λ a. ⊎-elim (λ (l : leb (r .level) 3 ≡ false). inl (leb-false (r .level) 3 l)) (λ v. inr (inl (leb-false (r .version) lastVersion (v .1)))) (and-fails (leb (r .level) 3) (leb (r .version) lastVersion) a))
@@ -66,7 +68,7 @@ pub refusals : Refusals
 unfolding refusal
 refusals r out =
     let v = taken (r .level) (r .version) (r .list) in
-    next (leb (r .level) 3 && leb (r .version) lastVersion && leb (r .mask) 8) 1 _ (BadNumber r) (Two r out) (numbers-clean r) (numbers-found r) (λ numbers.
+    next (inRange (r .level) (r .version) (r .mask)) 1 _ (BadNumber r) (Two r out) (numbers-clean r) (numbers-found r) (λ numbers.
     next (lawfulList (r .list)) 2 _ (BadList (r .list)) (Three r out) (list-lawful (r .list)) (list-faulty (r .list)) (λ modes.
     next (eqb (counts (r .list)) (length (r .payload))) 3 _ (BadCounts r) (Four r out)
     (λ e f. f (eqb-true (counts (r .list)) (length (r .payload)) e)) (eqb-false (counts (r .list)) (length (r .payload))) (λ sums.
@@ -77,3 +79,40 @@ refusals r out =
     (λ e f. omega (arith, leb-true 1 v e, rule .none .1 f)) (λ e. rule .none .0 (omega (arith, leb-false 1 v e))) (λ fit.
     next (leb (side v * side v) out) 6 0 (Short r out) (λ k. k ≡ 0)
     (λ e f. omega (arith, leb-true (side v * side v) out e)) (leb-false (side v * side v) out) (λ room. refl))))))
+
+-- ---- the number, from what the checks gave
+
+module _ (r : Request) (out : ℕ) where
+  pub refused-1 : inRange (r .level) (r .version) (r .mask) ≡ false → refusal r out ≡ 1
+  unfolding refusal
+  refused-1 e = rw e
+
+  module _ (one : inRange (r .level) (r .version) (r .mask) ≡ true) where
+    pub refused-2 : lawfulList (r .list) ≡ false → refusal r out ≡ 2
+    unfolding refusal
+    refused-2 e = rw (one, e)
+
+    module _ (two : lawfulList (r .list) ≡ true) where
+      pub refused-3 : eqb (counts (r .list)) (length (r .payload)) ≡ false → refusal r out ≡ 3
+      unfolding refusal
+      refused-3 e = rw (one, two, e)
+
+      module _ (three : eqb (counts (r .list)) (length (r .payload)) ≡ true) where
+        pub refused-4 : lawfulCharacters (r .list) (r .payload) ≡ false → refusal r out ≡ 4
+        unfolding refusal
+        refused-4 e = rw (one, two, three, e)
+
+        module _ (four : lawfulCharacters (r .list) (r .payload) ≡ true) where
+          pub refused-5 : taken (r .level) (r .version) (r .list) ≡ 0 → refusal r out ≡ 5
+          unfolding refusal
+          refused-5 e = rw (one, two, three, four, e)
+
+          pub refused-6 : 1 ≤ taken (r .level) (r .version) (r .list)
+              → out < side (taken (r .level) (r .version) (r .list)) * side (taken (r .level) (r .version) (r .list)) → refusal r out ≡ 6
+          unfolding refusal
+          refused-6 f e = rw (one, two, three, four, le-leb _ _ f, lt-leb _ _ e)
+
+          pub not-refused : 1 ≤ taken (r .level) (r .version) (r .list)
+              → side (taken (r .level) (r .version) (r .list)) * side (taken (r .level) (r .version) (r .list)) ≤ out → refusal r out ≡ 0
+          unfolding refusal
+          not-refused f e = rw (one, two, three, four, le-leb _ _ f, le-leb _ _ e)

@@ -37,11 +37,15 @@ taken level version list = frontOr0 (keep (λ v. fits v level list) (cond (eqb v
 abbrev pub unless : (passes : Bool) → (n later : ℕ) → ℕ
 unless passes n later = cond passes later n
 
+-- "level above 3, version above 10, mask above 8": none of these
+unfoldable pub inRange : (level version mask : ℕ) → Bool
+inRange level version mask = leb level 3 && leb version lastVersion && leb mask 8
+
 -- "The writer checks 1 to 6 in order": the number of the refusal, or 0
 unfoldable pub refusal : Request → (out : ℕ) → ℕ
 refusal r out =
     let v = taken (r .level) (r .version) (r .list) in
-    unless (leb (r .level) 3 && leb (r .version) lastVersion && leb (r .mask) 8) 1
+    unless (inRange (r .level) (r .version) (r .mask)) 1
     (unless (lawfulList (r .list)) 2
     (unless (eqb (counts (r .list)) (length (r .payload))) 3
     (unless (lawfulCharacters (r .list) (r .payload)) 4
