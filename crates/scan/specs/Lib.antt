@@ -1,1 +1,2 @@
 pub mod Received
+pub mod Scan

@@ -9,8 +9,8 @@ use lib.Dec.{eqb, ltb}
 use lib.ListN.{getD, take, drop}
 use Rattle.basics.specs.Sums.{one}
 use Rattle.basics.specs.Bits.{number, lowFirst}
-use Rattle.basics.specs.Lists.{any}
-use Rattle.tables.specs.Tables.{side}
+use Rattle.basics.specs.Lists.{any, upTo}
+use Rattle.tables.specs.Tables.{side, total}
 use Rattle.modules.specs.Modules.{order, flips}
 
 -- a copy of a word as it was read, and which of its bits could be read
@@ -38,3 +38,10 @@ flag bs q = one (any (eqb 2) (eight bs q))
 
 unfoldable pub codeword : (bs : List ℕ) (q : ℕ) → ℕ
 codeword bs q = cond (eqb (flag bs q) 1) 0 (number (eight bs q))
+
+-- the codewords of a matrix in their sent order, and their flags
+unfoldable pub codewords : (v mask : ℕ) (m : List ℕ) → List ℕ
+codewords v mask m = map (codeword (received v mask m)) (upTo (total v))
+
+unfoldable pub flags : (v mask : ℕ) (m : List ℕ) → List ℕ
+flags v mask m = map (flag (received v mask m)) (upTo (total v))

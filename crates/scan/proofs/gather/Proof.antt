@@ -1,0 +1,77 @@
+-- `scan::gather` meets its contract: the walk, with the kinds that tell the data modules and the rows that tell the mask.
+-- Assumes nothing.
+use mathlib.Core.Path.{_≡_, subst⁻¹, ap, _∙_}
+use mathlib.Core.List.{List, map}
+use Prim.Native.Nat.{ℕ, _-_, _*_, _≤_, _<_}
+use native.Mathlib.Nat.{mul-le-mul-left, le-trans}
+use native.Mathlib.Omega.{arith}
+use lib.ListN.{length, take}
+use Rattle.basics.specs.Lists.{upTo}
+use Rattle.basics.proofs.Lists.{length-map-upTo}
+use Rattle.tables.specs.Tables.{side, mostSide}
+use Rattle.modules.specs.Kinds.{rowFlips}
+use Rattle.scan.specs.Scan.{DataMap, Ready, Walked, passed}
+use Rattle.scan.proofs.Maps.{kinds-map}
+use Rattle.scan.proofs.Reading.{side-most}
+use Rattle.scan.proofs.Whole.{received-passed}
+use borrow.Author.Needs.{needs}
+use Rattle.scan.proofs.gather.Statement.{statement}
+use Rattle.scan.proofs.gather.Tie as tie
+
+slice-aggregate-kinds : tie.Need-slice-aggregate-kinds
+slice-aggregate-kinds c = search needs
+
+kinds-requires : tie.Need-kinds-requires
+kinds-requires c κs = let a = c .before .before .before in (a .pre .0 .0, (a .pre .0 .1 .0, side-most (a .args .v) (a .pre .0 .1 .0)))
+
+flip-rows-requires : tie.Need-flip-rows-requires
+flip-rows-requires c κs = search needs
+
+slice-aggregate-walk : tie.Need-slice-aggregate-walk
+slice-aggregate-walk c = search needs
+
+slice-aggregate-walk-2 : tie.Need-slice-aggregate-walk-2
+slice-aggregate-walk-2 c = search needs
+
+walk-requires : tie.Need-walk-requires
+walk-requires c κs =
+    let a = c .before .before .before .before .before .before .before .before .before in
+    let v : ℕ = a .args .v in
+    record {
+      least = a .pre .0 .0;
+      most = a .pre .0 .1 .0;
+      matrix = a .pre .1 .0;
+      map = subst⁻¹ (λ (k : List ℕ). DataMap v k) (c .before .before .before .before .before .kinds2 .ensures) (kinds-map v _);
+      flips = omega (arith, ap length (c .before .before .before .flip-rows .ensures), length-map-upTo (rowFlips (a .args .mask)) mostSide);
+      enough = a .pre .1 .1;
+    }
+
+same-length : tie.Need-same-length
+same-length c = search needs
+
+returns : tie.Need-returns
+returns c =
+    let a = c .before .before .before .before .before .before .before .before .before .before .before .before in
+    let v : ℕ = a .args .v in
+    let m = a .args .m .now in
+    let w = c .before .before .walk .ensures in
+    let fewer : side v * (side v - 1) ≤ side v * side v = mul-le-mul-left (side v) (omega arith) in (
+      w .0,
+      (
+        le-trans (w .1 .few) (le-trans fewer (a .pre .1 .1)),
+        w .1 .front ∙ ap (λ (r : List ℕ). passed v r m (side v * (side v - 1))) (c .before .before .before .before .before .before .flip-rows .ensures) ∙ received-passed v (a .args .mask) m (a .pre .0 .0) (a .pre .0 .1 .0),
+      ),
+    )
+
+pub gather-spec : {M : Type 1} → statement M
+gather-spec =
+    tie.close
+    (tie.spec
+    slice-aggregate-kinds
+    kinds-requires
+    flip-rows-requires
+    slice-aggregate-walk
+    slice-aggregate-walk-2
+    walk-requires
+    same-length
+    returns)
