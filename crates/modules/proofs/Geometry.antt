@@ -69,14 +69,14 @@ map-map : {A : Type 0} (f : ℕ → A) (g : ℕ → ℕ) (xs : List ℕ) → map
 map-map f g [] = refl
 map-map {A} f g (x ∷ xs) = ap (λ (ys : List A). f (g x) ∷ ys) (map-map f g xs)
 
--- ---- colours are 0 or 1
+-- ---- colours are 0 or 1, and a format bit's number is at most 14
 
-Low : Module → Type 0
+unfoldable pub Low : Module → Type 0
 Low (Finder c) = c ≤ 1
 Low (Timing c) = c ≤ 1
 Low (Alignment c) = c ≤ 1
 Low Dark = Unit {0}
-Low (Format c b) = Unit {0}
+Low (Format c b) = b ≤ 14
 Low (Version c b) = Unit {0}
 Low Data = Unit {0}
 
@@ -84,10 +84,14 @@ low-either : (t : Bool) (a b : Module) → Low a → Low b → Low (cond t a b)
 low-either true a b ha hb = ha
 low-either false a b ha hb = hb
 
-low-copy : (places : List ℕ) (n p : ℕ) (copy : ℕ → ℕ → Module) → ((c b : ℕ) → Low (copy c b)) → Low (copyAt places n p copy)
+low-copy : (places : List ℕ) (n p : ℕ) (copy : ℕ → ℕ → Module) → 0 < n → ((c b : ℕ) → b < n → Low (copy c b)) → Low (copyAt places n p copy)
 unfolding copyAt Low
-low-copy places n p copy h =
-    let k = placeIn places p in low-either (ltb k (length places)) (copy (k / n) (k % n)) Data (h (k / n) (k % n)) tt
+low-copy places n p copy some h =
+    let k = placeIn places p in
+    low-either (ltb k (length places)) (copy (k / n) (k % n)) Data (h (k / n) (k % n) (mod-lt k some)) tt
+
+small : (b : ℕ) → b < 15 → b ≤ 14
+small b l = omega arith
 
 low-word : (v i j : ℕ) → Low (wordModule v i j)
 unfolding wordModule Low
@@ -95,10 +99,10 @@ low-word v i j =
     let p = i * side v + j in
     let format = copyAt (formatPlaces v 0 ++ formatPlaces v 1) 15 p Format in
     let version = copyAt (versionPlaces v 0 ++ versionPlaces v 1) 18 p Version in
-    low-either (eqb i 8 || eqb j 8) format (cond (leb i 5 || leb j 5) version Data) (low-copy _ 15 p Format (λ c b. tt))
-    (low-either (leb i 5 || leb j 5) version Data (low-copy _ 18 p Version (λ c b. tt)) tt)
+    low-either (eqb i 8 || eqb j 8) format (cond (leb i 5 || leb j 5) version Data) (low-copy _ 15 p Format (omega arith) (λ c b l. small b l))
+    (low-either (leb i 5 || leb j 5) version Data (low-copy _ 18 p Version (omega arith) (λ c b l. tt)) tt)
 
-low-module : (v i j : ℕ) → Low (moduleOf v i j)
+pub low-module : (v i j : ℕ) → Low (moduleOf v i j)
 unfolding moduleOf finderColour Low
 low-module v i j =
     let s = side v in
@@ -166,7 +170,7 @@ module _ (v : ℕ) (least : 1 ≤ v) (most : v ≤ 10) where
       T-not (isData v p) (rw same at six) (untruth (isData v p) d)
 
   -- each data module is met
-  step-there : (p : ℕ) → p < side v * side v → isData v p ≡ true
+  pub step-there : (p : ℕ) → p < side v * side v → isData v p ≡ true
       → (walk (side v) (step (side v) (p / side v) (p % side v)) ≡ p) × (step (side v) (p / side v) (p % side v) < side v * (side v - 1))
   unfolding back
   step-there p h d =
@@ -179,7 +183,7 @@ module _ (v : ℕ) (least : 1 ≤ v) (most : v ≤ 10) where
 
   -- ---- the data modules in their order
 
-  met-at : (j : ℕ) → j < side v * (side v - 1) → getD (met v) j false ≡ isData v (walk (side v) j)
+  pub met-at : (j : ℕ) → j < side v * (side v - 1) → getD (met v) j false ≡ isData v (walk (side v) j)
   unfolding met
   met-at j h = getD-map-upTo (λ k. isData v (walk (side v) k)) (side v * (side v - 1)) j false h
 

@@ -1,7 +1,9 @@
 pub mod Centres
 pub mod Drawn
+pub mod Filling
 pub mod Geometry
 pub mod Kept
 pub mod Open
 pub mod Stamps
 pub mod Tests
+pub mod Tints

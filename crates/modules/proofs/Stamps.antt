@@ -63,3 +63,9 @@ module _ (v copy b s r : ℕ) (e : s ≡ side v) where
   pub version-second : copy ≡ 1 → 7 ≤ v → b < 18 → r ≡ versionTwo s b → r ≡ getD (versionPlaces v copy) b 0
   unfolding versionPlaces
   version-second h m l q = q ∙ rw (e, h, le-leb 7 v m) (sym (getD-map-upTo (versionTwo (side v)) 18 b 0 l))
+
+-- row i ends in the matrix
+pub row-end : (s i : ℕ) → i < s → i * s + s ≤ s * s
+row-end s i h =
+    let row : suc i * s ≤ s * s = mul-le-mul-right s h in
+    rw suc-mul at row

@@ -10,7 +10,7 @@ use Rattle.basics.specs.Bits.{bitOf, byteBits, lowFirst}
 use Rattle.basics.specs.Lists.{upTo}
 use Rattle.tables.specs.Tables.{side, centres}
 use Rattle.words.specs.Words.{formatWord, formatBits, versionWord}
-use Rattle.modules.specs.Modules.{Module, Finder, Timing, Alignment, Dark, Format, Version, Data, met, fill, step, flips, formatPlaces, versionPlaces}
+use Rattle.modules.specs.Modules.{Module, Finder, Timing, Alignment, Dark, Format, Version, Data, met, fill, walk, step, flips, formatPlaces, versionPlaces}
 use Rattle.modules.specs.Geometry.{moduleOn}
 
 -- 0 or 1, the colour, where no mask and no level changes it; 2 and the codeword bit at a data module; 4 and the bit's number at a format bit
@@ -45,6 +45,10 @@ finished v level mask base =
 -- where a mask flips row i: bit j for column j
 unfoldable pub rowFlips : (mask i : ℕ) → ℕ
 rowFlips mask i = lowFirst (map (flips mask i) (upTo 60))
+
+-- the colour of a module of kind x in column j, where the bits of two words are the colours of all kinds: turned where the row flips, else plain
+unfoldable pub tinted : (plain turned row j x : ℕ) → ℕ
+tinted plain turned row j x = bitOf (cond (eqb (bitOf row j) 0) plain turned) x
 
 -- ---- stores, one a turn: at turn t the value t at the place t
 
@@ -116,9 +120,16 @@ pub record Filling : Type 0 where
   pub matrix : List ℕ
   pub used : ℕ
 
+abbrev pub filling : (matrix : List ℕ) (used : ℕ) → Filling
+filling matrix used = record { matrix = matrix; used = used }
+
 abbrev pub putIf : Bool → (bs : List ℕ) (m : List ℕ) (n p : ℕ) → Filling
-putIf true bs m n p = record { matrix = set m p (2 + getD bs n 0); used = n + 1 }
-putIf false bs m n p = record { matrix = m; used = n }
+putIf true bs m n p = filling (set m p (2 + getD bs n 0)) (n + 1)
+putIf false bs m n p = filling m n
+
+-- the modules that column pair q meets, in their order
+unfoldable pub pairPlace : (s q r : ℕ) → ℕ
+pairPlace s q r = walk s (q * (2 * s) + r)
 
 -- a module is met: a data module takes the next bit, 0 where there are no more
 unfoldable pub put : (bs : List ℕ) → Filling → (p : ℕ) → Filling

@@ -1,18 +1,27 @@
 // What each module of a version is, the data modules' filling, and the symbol that a mask makes of it.
 ghost use mathlib.Core.Path.{_≡_};
+ghost use mathlib.Core.Bool.{cond};
 ghost use mathlib.Core.List.{_++_};
-ghost use Prim.Native.Nat.{_+_, _-_, _*_, _≤_, _<_};
+ghost use Prim.Native.Nat.{_+_, _-_, _*_, _%_, _≤_, _<_};
+ghost use lib.Dec.{eqb};
 ghost use lib.ListN.{length, getD, drop, replicate};
 ghost use Rattle.basics.specs.Bits.{bitOf, byteBits};
-ghost use Rattle.tables.specs.Tables.{side as sideOf, centres, lastVersion};
-ghost use Rattle.modules.specs.Modules.{formatPlaces, versionPlaces};
-ghost use Rattle.modules.specs.Kinds.{kinds as kindsOf, rowFlips, stamped, squarePlace, timingPlace, timingValue, formatPlace, formatValue, versionPlace, versionValue, atFinder, alignedOne, aligned, findersOn, frameOn};
+ghost use Rattle.basics.specs.Build.{build};
+ghost use Rattle.basics.specs.Lists.{AtMost};
+ghost use Rattle.tables.specs.Tables.{side as sideOf, centres, lastVersion, Lawful};
+ghost use Rattle.modules.specs.Modules.{formatPlaces, versionPlaces, pairColumn};
+ghost use Rattle.modules.specs.Kinds.{kinds as kindsOf, rowFlips, stamped, squarePlace, timingPlace, timingValue, formatPlace, formatValue, versionPlace, versionValue, atFinder, alignedOne, aligned, findersOn, frameOn, laid, finished, tinted, filling, put as putOne, putAll, pairPlace};
 
 // The kind of a data module that is not filled.
 const DATA: u8 = 2;
 
 // The kind of bit 0 of the format word.
 const FORMAT: usize = 4;
+
+// The colours of kinds 0 to 3, bit by bit, where the mask leaves a data module and where it flips it.
+const PLAIN: u64 = 10;
+
+const TURNED: u64 = 6;
 
 // The version word is drawn from this version on.
 const FIRST_WITH_WORD: usize = 7;
@@ -280,4 +289,138 @@ pub fn kinds(v: usize, out: &mut [u8])
     let s = tables::side(v);
     let n = s * s;
     patterns(&mut out[0..n], v);
+}
+
+// The colour of a module of kind x in column j: a bit of the word for flipped columns or of the other.
+fn tint(plain: u64, turned: u64, row: u64, j: usize, x: u8) -> u8
+    requires { ⌜ (j < 64) × (x < 64) ⌝ }
+    ensures { λ r. ⌜ r ≡ tinted plain turned row j x ⌝ }
+{
+    if bit_of(row, j) == 0 {
+        return bit_of(plain, x as usize);
+    }
+    bit_of(turned, x as usize)
+}
+
+// The colours of a row's kinds.
+fn tint_row(base: &[u8], out: &mut [u8], plain: u64, turned: u64, row: u64)
+    requires { ⌜ (length (now out) ≡ length (now base)) × ((length (now base) ≤ 57) × AtMost 18 (now base)) ⌝ }
+    ensures { λ _. ⌜ now (out .exit) ≡ build (λ j. tinted plain turned row j (getD (now (base .entry)) j 0)) (length (now (base .entry))) ⌝ }
+{
+    let mut j: usize = 0;
+    while j < base.len() {
+        out[j] = tint(plain, turned, row, j, base[j]);
+        j += 1;
+    }
+}
+
+// The symbol over a laid matrix.
+pub fn finish(base: &[u8], v: usize, level: usize, mask: usize, out: &mut [u8])
+    requires { ⌜ Lawful v level × ((mask < 8) × ((length (now base) ≡ sideOf v * sideOf v) × (AtMost 18 (now base) × (sideOf v * sideOf v ≤ length (now out))))) ⌝ }
+    ensures { λ _. ⌜ now (out .exit) ≡ finished v level mask (now (base .entry)) ++ drop (sideOf v * sideOf v) (now (out .entry)) ⌝ }
+{
+    let s = tables::side(v);
+    let word = words::format_word(words::format_bits(level, mask)) as u64 * 16;
+    let mut i: usize = 0;
+    while i < s {
+        let a = i * s;
+        let e = a + s;
+        tint_row(
+            &base[a..e],
+            &mut out[a..e],
+            word + PLAIN,
+            word + TURNED,
+            row_flips(mask, i),
+        );
+        i += 1;
+    }
+}
+
+// The kind of a data module that codeword bit n fills, 0 past the last.
+fn filled(codewords: &[u8], n: usize) -> u8
+    ensures { λ r. ⌜ r ≡ 2 + getD (byteBits (now (codewords .entry))) n 0 ⌝ }
+{
+    let q = n / 8;
+    if q < codewords.len() {
+        return DATA + bit_of(wide(codewords[q]), 7 - n % 8);
+    }
+    DATA
+}
+
+// A module is met: a data module takes codeword bit n. Answers how many bits are used then.
+fn put(codewords: &[u8], base: &mut [u8], p: usize, n: usize) -> usize
+    requires { ⌜ (p < length (now base)) × (n < 4096) ⌝ }
+    ensures { λ r. ⌜ filling (now (base .exit)) r ≡ putOne (byteBits (now (codewords .entry))) (filling (now (base .entry)) n) p ⌝ }
+{
+    if base[p] != DATA {
+        return n;
+    }
+    base[p] = filled(codewords, n);
+    n + 1
+}
+
+// The right column of pair q.
+fn pair_column(v: usize, q: usize) -> usize
+    requires { ⌜ (1 ≤ v) × ((v ≤ lastVersion) × (q < 2 * v + 8)) ⌝ }
+    ensures { λ r. ⌜ (r ≡ pairColumn (sideOf v) q) × ((1 ≤ r) × (r < sideOf v)) ⌝ }
+{
+    let c = tables::side(v) - 1 - 2 * q;
+    if c <= 6 {
+        return c - 1;
+    }
+    c
+}
+
+// The row that pair q meets after t rows: the first pair runs upward, then down, in turn.
+fn pair_row(s: usize, q: usize, t: usize) -> usize
+    requires { ⌜ t < s ⌝ }
+    ensures { λ r. ⌜ (r ≡ cond (eqb (q % 2) 0) (s - 1 - t) t) × (r < s) ⌝ }
+{
+    if q % 2 == 0 {
+        return s - 1 - t;
+    }
+    t
+}
+
+// The modules of column pair q, right before left in each row.
+fn pair(codewords: &[u8], base: &mut [u8], v: usize, q: usize, n: usize) -> usize
+    requires { ⌜ (1 ≤ v) × ((v ≤ lastVersion) × ((q < 2 * v + 8) × ((n + 2 * sideOf v ≤ 4000) × (sideOf v * sideOf v ≤ length (now base))))) ⌝ }
+    ensures { λ r. ⌜ filling (now (base .exit)) r ≡ putAll (byteBits (now (codewords .entry))) (pairPlace (sideOf v) q) (2 * sideOf v) (filling (now (base .entry)) n) ⌝ }
+{
+    let s = tables::side(v);
+    let right = pair_column(v, q);
+    let mut used = n;
+    let mut t: usize = 0;
+    while t < s {
+        let p = place(s, pair_row(s, q, t), right);
+        used = put(codewords, base, p, used);
+        used = put(codewords, base, p - 1, used);
+        t += 1;
+    }
+    used
+}
+
+// The kinds of a version's modules, the data modules filled by the codewords, over a matrix of its length.
+fn fill(codewords: &[u8], base: &mut [u8], v: usize)
+    requires { ⌜ (1 ≤ v) × ((v ≤ lastVersion) × (length (now base) ≡ sideOf v * sideOf v)) ⌝ }
+    ensures { λ _. ⌜ now (base .exit) ≡ laid v (now (codewords .entry)) ⌝ }
+{
+    patterns(base, v);
+    let end = 2 * v + 8;
+    let mut used: usize = 0;
+    let mut q: usize = 0;
+    while q < end {
+        used = pair(codewords, base, v, q, used);
+        q += 1;
+    }
+}
+
+// The kinds of a version's modules, the data modules filled by the codewords and the surplus by 0.
+pub fn lay(v: usize, codewords: &[u8], base: &mut [u8])
+    requires { ⌜ (1 ≤ v) × ((v ≤ lastVersion) × (sideOf v * sideOf v ≤ length (now base))) ⌝ }
+    ensures { λ _. ⌜ now (base .exit) ≡ laid v (now (codewords .entry)) ++ drop (sideOf v * sideOf v) (now (base .entry)) ⌝ }
+{
+    let s = tables::side(v);
+    let n = s * s;
+    fill(codewords, &mut base[0..n], v);
 }
