@@ -161,3 +161,9 @@ module _ (v level : ℕ) (lawful : Lawful v level) where
         (λ b h. take-at _ _ (blockData v level b) (length-held b h)))
         ∙ cut codewords (blockData v level) (blockCount v level)
         ∙ take-all (sum (blockCount v level) (blockData v level)) codewords (omega (arith, data-sum v level lawful))
+
+    -- the data of what is gathered from what is sent is the data
+    pub data-through : dataOf v level (blockOf v level (gatheredAll v level (λ q. getD (sent v level codewords) q 0))) ≡ codewords
+    data-through =
+        data-same v level _ (block v level codewords) (λ b h. block-of-gathered v level (λ q. getD (sent v level codewords) q 0) b h ∙ deal-gather b h)
+        ∙ data-back
