@@ -20,7 +20,7 @@ use Rattle.cursor.proofs.Bits.{order, at-most-take, at-most-drop}
 use Rattle.tables.specs.Tables.{totals, checkRows, blockRows, total, checkCount, blockCount, countWidth, dataCount, Lawful}
 use Rattle.tables.proofs.Rules.{everywhere, rule}
 use Rattle.stream.specs.Stream.{codeOf, known, numericBits, alphanumericBits, body, bodyWidth, segments, segmentsWidth, lawfulList, counts, lawfulCharacters, fits, pads, wholeBytes, padded, dataCodewords, LawfulMessage}
-use Rattle.parse.specs.Parse.{Front, End, segment, front, Parsed, Message, parse, message}
+use Rattle.parse.specs.Parse.{Front, End, segment, ends, front, Parsed, Message, parse, message}
 use Rattle.parse.proofs.Body.{both-left, both-right, by-mode}
 use Rattle.parse.proofs.Written.{body-length, CountsFit, segments-read}
 
@@ -142,11 +142,11 @@ either-true true = refl
 either-true false = refl
 
 pub few-bits : (v : ℕ) (bs : List ℕ) → length bs < 4 → front v bs ≡ End
-unfolding front
+unfolding front ends
 few-bits v bs h = rw (lt-ltb (length bs) 4 h)
 
 pub mode-zero : (v : ℕ) (bs : List ℕ) → number (take 4 bs) ≡ 0 → front v bs ≡ End
-unfolding front
+unfolding front ends
 mode-zero v bs h = rw (eq-eqb (number (take 4 bs)) 0 h, either-true (ltb (length bs) 4))
 
 module _ (v most : ℕ) (bs : List ℕ) (b : AtMost 1 bs) (h : length bs ≤ 8 * most) where

@@ -12,7 +12,7 @@ use borrow.Author.Tests.{eqb-true, ltb-true, ltb-false, leb-true, lt-ltb, le-ltb
 use Rattle.basics.specs.Bits.{number}
 use Rattle.tables.specs.Tables.{countWidth}
 use Rattle.stream.specs.Stream.{known, bodyWidth}
-use Rattle.parse.specs.Parse.{Front, End, Segment, Refusal, demand, characters, inRange, headWidth, segment, front, Parsed, Message, Fault, inFront, parse}
+use Rattle.parse.specs.Parse.{Front, End, Segment, Refusal, demand, characters, inRange, headWidth, segment, ends, front, Parsed, Message, Fault, inFront, parse}
 use Rattle.parse.proofs.Body.{by-mode}
 
 -- no known mode is 0
@@ -33,7 +33,7 @@ pub record Whole (v mode count : ℕ) (bs : List ℕ) : Type 0 where
 
 module _ (v mode count : ℕ) (bs : List ℕ) where
   pub whole-segment : Whole v mode count bs → front v bs ≡ Segment mode count
-  unfolding front segment headWidth
+  unfolding front ends segment headWidth
   whole-segment w =
       rw (
         w .modes,
@@ -63,13 +63,13 @@ segment-front false f e = e
 
 module _ (v mode count : ℕ) (bs : List ℕ) where
   pub segment-whole : front v bs ≡ Segment mode count → Whole v mode count bs
-  unfolding front segment headWidth
+  unfolding front ends segment headWidth
   segment-whole e =
       let m : ℕ = number (take 4 bs) in
       let n : ℕ = number (take (countWidth v m) (drop 4 bs)) in
       let d =
       demanded (known m) (leb (headWidth v m) (length bs)) (leb (headWidth v m + bodyWidth m n) (length bs)) (inRange m n (drop (headWidth v m) bs)) m n
-      (segment-front (ltb (length bs) 4 || eqb m 0) (segment v m n bs) e) in
+      (segment-front (ends bs) (segment v m n bs) e) in
       record {
         modes = d .3;
         counts = rw (d .3) at (d .4);

@@ -1,1 +1,3 @@
+pub mod Groups
 pub mod Parse
+pub mod Steps

@@ -73,12 +73,16 @@ segment v mode count bs =
     (demand ranged 15
     (Segment mode count))))
 
--- "Reading: fewer than four bits left, or mode 0, ends the stream; what follows is ignored."
+-- "Reading: fewer than four bits left, or mode 0, ends the stream"
+unfoldable pub ends : List ℕ → Bool
+ends bs = ltb (length bs) 4 || eqb (number (take 4 bs)) 0
+
+-- "what follows is ignored"
 unfoldable pub front : (v : ℕ) → List ℕ → Front
 front v bs =
     let mode = number (take 4 bs) in
     let count = number (take (countWidth v mode) (drop 4 bs)) in
-    cond (ltb (length bs) 4 || eqb mode 0) End (segment v mode count bs)
+    cond (ends bs) End (segment v mode count bs)
 
 -- ---- the whole stream
 

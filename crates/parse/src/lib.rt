@@ -1,1 +1,209 @@
-// parse
+// Data codewords back to a message, or the first fault.
+use cursor::Cursor;
+ghost use mathlib.Core.Path.{_≡_};
+ghost use mathlib.Core.Bool.{true};
+ghost use mathlib.Core.List.{[], _∷_, _++_};
+ghost use Prim.Native.Nat.{_+_, _*_, _≤_, _<_};
+ghost use lib.ListN.{length, take};
+ghost use Rattle.stream.specs.Stream.{character as characterOf, known as isKnown, bodyWidth};
+ghost use Rattle.parse.specs.Steps.{BodyAsks, BodyReads};
+ghost use Rattle.parse.specs.Groups.{groupOf, groupCharacters, InGroup};
+
+// The characters in the order of their codes.
+const ALPHABET: [u8; 45] = [
+    48,
+    49,
+    50,
+    51,
+    52,
+    53,
+    54,
+    55,
+    56,
+    57,
+    65,
+    66,
+    67,
+    68,
+    69,
+    70,
+    71,
+    72,
+    73,
+    74,
+    75,
+    76,
+    77,
+    78,
+    79,
+    80,
+    81,
+    82,
+    83,
+    84,
+    85,
+    86,
+    87,
+    88,
+    89,
+    90,
+    32,
+    36,
+    37,
+    42,
+    43,
+    45,
+    46,
+    47,
+    58,
+];
+
+// The next group of a body: how many characters, in how many bits, and the most that it may be.
+pub struct Group {
+    pub size: usize,
+    pub width: usize,
+    pub most: usize,
+}
+
+// A body that was read, with the cursor past it; or a group is out of range.
+pub enum Reading {
+    Past(Cursor),
+    OutOfRange,
+}
+
+// The character of a code.
+fn character(x: usize) -> u8
+    requires { ⌜ x < 45 ⌝ }
+    ensures { λ r. ⌜ r ≡ characterOf x ⌝ }
+{
+    ALPHABET[x]
+}
+
+// The next group where so many characters are left.
+fn next_group(mode: usize, left: usize) -> Group
+    ensures { λ r. ⌜ r ≡ groupOf mode left ⌝ }
+{
+    if mode == 1 {
+        if 3 <= left {
+            return Group {
+                size: 3,
+                width: 10,
+                most: 999,
+            };
+        }
+        if left == 2 {
+            return Group {
+                size: 2,
+                width: 7,
+                most: 99,
+            };
+        }
+        return Group {
+            size: 1,
+            width: 4,
+            most: 9,
+        };
+    }
+    if mode == 2 {
+        if 2 <= left {
+            return Group {
+                size: 2,
+                width: 11,
+                most: 2024,
+            };
+        }
+        return Group {
+            size: 1,
+            width: 6,
+            most: 44,
+        };
+    }
+    Group {
+        size: 1,
+        width: 8,
+        most: 255,
+    }
+}
+
+// Two characters, written from p on.
+fn put_two(payload: &mut [u8], p: usize, a: u8, b: u8)
+    requires { ⌜ p + 2 ≤ length (now payload) ⌝ }
+    ensures { λ _. ⌜ take (p + 2) (now (payload .exit)) ≡ take p (now (payload .entry)) ++ (a ∷ b ∷ []) ⌝ }
+{
+    payload[p] = a;
+    payload[p + 1] = b;
+}
+
+// Three characters, written from p on.
+fn put_three(payload: &mut [u8], p: usize, a: u8, b: u8, c: u8)
+    requires { ⌜ p + 3 ≤ length (now payload) ⌝ }
+    ensures { λ _. ⌜ take (p + 3) (now (payload .exit)) ≡ take p (now (payload .entry)) ++ (a ∷ b ∷ c ∷ []) ⌝ }
+{
+    payload[p] = a;
+    payload[p + 1] = b;
+    payload[p + 2] = c;
+}
+
+// A group's characters, written from p on.
+fn put_group(payload: &mut [u8], p: usize, mode: usize, size: usize, x: usize)
+    requires { ⌜ InGroup mode size x × (p + size ≤ length (now payload)) ⌝ }
+    ensures { λ _. ⌜ take (p + size) (now (payload .exit)) ≡ take p (now (payload .entry)) ++ groupCharacters mode size x ⌝ }
+{
+    if size == 3 {
+        put_three(
+            payload,
+            p,
+            character(x / 100),
+            character(x / 10 % 10),
+            character(x % 10),
+        );
+        return;
+    }
+    if size == 2 {
+        if mode == 1 {
+            put_two(payload, p, character(x / 10), character(x % 10));
+            return;
+        }
+        put_two(payload, p, character(x / 45), character(x % 45));
+        return;
+    }
+    if mode == 4 {
+        payload[p] = x as u8;
+        return;
+    }
+    payload[p] = character(x);
+}
+
+fn wide(x: u32) -> usize
+    ensures { λ r. ⌜ r ≡ x ⌝ }
+{
+    x as usize
+}
+
+// A body's characters, written after those used; or refusal 15.
+fn read_body(
+    from: Cursor,
+    codewords: &[u8],
+    mode: usize,
+    count: usize,
+    payload: &mut [u8],
+    used: usize,
+) -> Reading
+    requires { ⌜ BodyAsks (now codewords) (from .at) mode count used (length (now payload)) ⌝ }
+    ensures { λ r. ⌜ BodyReads (now (codewords .entry)) (from .at) mode count used (now (payload .entry)) (now (payload .exit)) r ⌝ }
+{
+    let mut at = from.at;
+    let mut done: usize = 0;
+    while done < count {
+        let group = next_group(mode, count - done);
+        let taken = Cursor { at }.take(codewords, group.width);
+        let x = wide(taken.value);
+        if group.most < x {
+            return Reading::OutOfRange;
+        }
+        put_group(payload, used + done, mode, group.size, x);
+        at += group.width;
+        done += group.size;
+    }
+    Reading::Past(Cursor { at })
+}
