@@ -3,6 +3,7 @@ pub mod Body
 pub mod Encode
 pub mod Front
 pub mod Groups
+pub mod Heads
 pub mod Lawful
 pub mod Load
 pub mod Written

@@ -5,12 +5,30 @@ use mathlib.Core.Bool.{true, false}
 use mathlib.Core.List.{List, _++_}
 use Prim.Native.Nat.{ℕ, _+_, _*_, _≤_}
 use lib.ListN.{length, take, drop}
-use Rattle.basics.specs.Bits.{byteBits}
+use Rattle.basics.specs.Bits.{byteBits, number}
+use Rattle.tables.specs.Tables.{countWidth}
 use Rattle.cursor.specs.declared.Cursor.{Cursor}
 use Rattle.stream.specs.Stream.{known, bodyWidth}
+use Rattle.parse.specs.declared.Head.{Head}
+use Rattle.parse.specs.declared.Heading.{Heading}
+use Rattle.parse.specs.declared.Heading.the-variants.{Found, Refused}
 use Rattle.parse.specs.declared.Reading.{Reading}
 use Rattle.parse.specs.declared.Reading.the-variants.{Past, OutOfRange}
-use Rattle.parse.specs.Parse.{characters, inRange}
+use Rattle.parse.specs.Parse.{characters, inRange, headWidth, Refusal, front}
+
+-- ---- a segment's head
+
+-- it stands whole: a mode that is known, a count field and a body that do not run past the bits
+pub record Stands (v mode count : ℕ) (bs : List ℕ) : Type 0 where
+  pub modes : number (take 4 bs) ≡ mode
+  pub counts : number (take (countWidth v mode) (drop 4 bs)) ≡ count
+  pub knows : known mode ≡ true
+  pub holds : headWidth v mode + bodyWidth mode count ≤ length bs
+
+-- mode, count and the cursor at the body; or what stands at the front is a refusal
+abbrev pub HeadReads : (codewords : List ℕ) (v at : ℕ) → Heading → Type 0
+HeadReads codewords v at (Found h) = Stands v (h .mode) (h .count) (drop at (byteBits codewords)) × (h .body .at ≡ at + headWidth v (h .mode))
+HeadReads codewords v at (Refused n) = front v (drop at (byteBits codewords)) ≡ Refusal n
 
 -- ---- a body
 

@@ -1,12 +1,14 @@
 // Data codewords back to a message, or the first fault.
 use cursor::Cursor;
 ghost use mathlib.Core.Path.{_≡_};
-ghost use mathlib.Core.Bool.{true};
+ghost use mathlib.Core.Bool.{false};
 ghost use mathlib.Core.List.{[], _∷_, _++_};
 ghost use Prim.Native.Nat.{_+_, _*_, _≤_, _<_};
-ghost use lib.ListN.{length, take};
-ghost use Rattle.stream.specs.Stream.{character as characterOf, known as isKnown, bodyWidth};
-ghost use Rattle.parse.specs.Steps.{BodyAsks, BodyReads};
+ghost use lib.ListN.{length, take, drop};
+ghost use Rattle.basics.specs.Bits.{byteBits};
+ghost use Rattle.stream.specs.Stream.{character as characterOf};
+ghost use Rattle.parse.specs.Parse.{ends as doesEnd};
+ghost use Rattle.parse.specs.Steps.{HeadReads, BodyAsks, BodyReads};
 ghost use Rattle.parse.specs.Groups.{groupOf, groupCharacters, InGroup};
 
 // The characters in the order of their codes.
@@ -63,6 +65,18 @@ pub struct Group {
     pub size: usize,
     pub width: usize,
     pub most: usize,
+}
+
+// A segment's head: its mode, its count, and the cursor at its body; or a refusal.
+pub struct Head {
+    pub mode: usize,
+    pub count: usize,
+    pub body: Cursor,
+}
+
+pub enum Heading {
+    Found(Head),
+    Refused(u8),
 }
 
 // A body that was read, with the cursor past it; or a group is out of range.
@@ -206,4 +220,44 @@ fn read_body(
         done += group.size;
     }
     Reading::Past(Cursor { at })
+}
+
+// Fewer than four bits are left, or mode 0.
+fn ends(from: Cursor, codewords: &[u8]) -> bool
+    requires { ⌜ (length (now codewords) ≤ 274) × (from .at ≤ 8 * length (now codewords)) ⌝ }
+    ensures { λ r. ⌜ r ≡ doesEnd (drop (from .at) (byteBits (now (codewords .entry)))) ⌝ }
+{
+    let at = from.at;
+    if 8 * codewords.len() - at < 4 {
+        return true;
+    }
+    let first = from.take(codewords, 4);
+    first.value == 0
+}
+
+// The head of a segment that stands whole; or refusal 13 or 14.
+fn head_at(from: Cursor, codewords: &[u8], v: usize) -> Heading
+    requires { ⌜ (length (now codewords) ≤ 274) × (doesEnd (drop (from .at) (byteBits (now codewords))) ≡ false) ⌝ }
+    ensures { λ r. ⌜ HeadReads (now (codewords .entry)) v (from .at) r ⌝ }
+{
+    let end = 8 * codewords.len();
+    let first = from.take(codewords, 4);
+    let mode = wide(first.value);
+    if !stream::known(mode) {
+        return Heading::Refused(13);
+    }
+    let field = first.next;
+    let at = field.at;
+    let width = tables::count_width(v, mode);
+    if end - at < width {
+        return Heading::Refused(14);
+    }
+    let second = field.take(codewords, width);
+    let count = wide(second.value);
+    let body = second.next;
+    let start = body.at;
+    if end - start < stream::body_width(mode, count) {
+        return Heading::Refused(14);
+    }
+    Heading::Found(Head { mode, count, body })
 }
