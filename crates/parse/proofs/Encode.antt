@@ -20,15 +20,11 @@ use Rattle.cursor.proofs.Bits.{order, at-most-take, at-most-drop}
 use Rattle.tables.specs.Tables.{totals, checkRows, blockRows, total, checkCount, blockCount, countWidth, dataCount, Lawful}
 use Rattle.tables.proofs.Rules.{everywhere, rule}
 use Rattle.stream.specs.Stream.{codeOf, known, numericBits, alphanumericBits, body, bodyWidth, segments, segmentsWidth, lawfulList, counts, lawfulCharacters, fits, pads, wholeBytes, padded, dataCodewords, LawfulMessage}
-use Rattle.parse.specs.Parse.{Front, End, segment, ends, front, Parsed, Message, parse, message}
+use Rattle.parse.specs.Parse.{Front, End, segment, ends, front, Parsed, Message, parse, mostData, message}
 use Rattle.parse.proofs.Body.{both-left, both-right, by-mode}
 use Rattle.parse.proofs.Written.{body-length, CountsFit, segments-read}
 
 -- ---- counts fit their fields
-
--- the most data codewords of the versions that share their count widths
-abbrev pub mostData : ℕ → ℕ
-mostData v = cond (leb v 9) 232 274
 
 data-most-tested : T (everywhere (λ v level. leb (dataCount v level) (mostData v)))
 unfolding dataCount total totals checkCount checkRows blockCount blockRows

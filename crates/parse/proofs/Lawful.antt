@@ -19,10 +19,10 @@ use Rattle.basics.proofs.Test.{all, at}
 use Rattle.cursor.proofs.Bits.{at-most-drop, number-small, bytes-small}
 use Rattle.tables.specs.Tables.{countWidth, dataCount, Lawful, mostPayload, mostList}
 use Rattle.stream.specs.Stream.{alphabet, codeOf, character, known, inMode, bodyWidth, segmentsWidth, lawfulList, counts, lawfulCharacters, fits, LawfulMessage}
-use Rattle.parse.specs.Parse.{digits, digitsInRange, pairs, pairsInRange, characters, inRange, Front, End, Segment, Refusal, headWidth, front, Parsed, Message, Fault, inFront, parse, message}
+use Rattle.parse.specs.Parse.{digits, digitsInRange, pairs, pairsInRange, characters, inRange, Front, End, Segment, Refusal, headWidth, front, Parsed, Message, Fault, inFront, parse, mostData, message}
 use Rattle.parse.proofs.Body.{both-left, both-right, both-true, by-mode}
 use Rattle.parse.proofs.Front.{Whole, segment-whole, parse-segment, parse-refusal, parse-end}
-use Rattle.parse.proofs.Encode.{mostData, data-most}
+use Rattle.parse.proofs.Encode.{data-most}
 use Rattle.parse.proofs.Load.{list-enough}
 
 -- ---- the characters of a body

@@ -6,4 +6,5 @@ pub mod Groups
 pub mod Heads
 pub mod Lawful
 pub mod Load
+pub mod Steps
 pub mod Written

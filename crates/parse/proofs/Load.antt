@@ -12,12 +12,8 @@ use lib.ListN.{length, getD}
 use Rattle.tables.specs.Tables.{countWidth}
 use Rattle.stream.specs.Stream.{known, bodyWidth, segmentsWidth, lawfulList, counts}
 use Rattle.parse.proofs.Body.{by-mode, both-left, both-right}
-use Rattle.parse.proofs.Encode.{mostData}
-
--- so many bits hold so many characters in so many segments; t where the version is 9 or less
-pub record Load (t : Bool) (bs chars segs : ℕ) : Type 0 where
-  pub some : (chars ≡ 0) ⊎ (10 * chars + 3 * cond t 14 16 ≤ 3 * bs)
-  pub heads : cond t 12 15 * segs ≤ bs
+use Rattle.parse.specs.Parse.{mostData}
+use Rattle.parse.specs.Steps.{Load}
 
 pub load-none : (t : Bool) → Load t 0 0 0
 load-none true = record { some = inl refl; heads = omega arith }

@@ -107,6 +107,10 @@ parse (suc fuel) v bs =
       | Refusal n ↦ Fault n
     ]
 
+-- the most data codewords of the versions that share their count widths: 9-L's and 10-L's
+abbrev pub mostData : ℕ → ℕ
+mostData v = cond (leb v 9) 232 274
+
 -- what the data codewords hold
 unfoldable pub message : (v : ℕ) → (codewords : List ℕ) → Parsed
 message v codewords = let bs = byteBits codewords in parse (length bs) v bs

@@ -8,7 +8,7 @@ ghost use lib.ListN.{length, take, drop};
 ghost use Rattle.basics.specs.Bits.{byteBits};
 ghost use Rattle.stream.specs.Stream.{character as characterOf};
 ghost use Rattle.parse.specs.Parse.{ends as doesEnd};
-ghost use Rattle.parse.specs.Steps.{HeadReads, BodyAsks, BodyReads};
+ghost use Rattle.parse.specs.Steps.{HeadReads, BodyAsks, BodyReads, StepAsks, StepReads};
 ghost use Rattle.parse.specs.Groups.{groupOf, groupCharacters, InGroup};
 
 // The characters in the order of their codes.
@@ -83,6 +83,29 @@ pub enum Heading {
 pub enum Reading {
     Past(Cursor),
     OutOfRange,
+}
+
+// How far the reading is: the cursor, the characters and the segments before it.
+pub struct Progress {
+    pub cursor: Cursor,
+    pub used: usize,
+    pub segments: usize,
+}
+
+pub enum Step {
+    Next(Progress),
+    NoStep(u8),
+}
+
+// What the codewords hold: the length of the payload and the number of segments; or the first fault.
+pub struct Sizes {
+    pub payload: usize,
+    pub segments: usize,
+}
+
+pub enum Parsing {
+    Whole(Sizes),
+    Faulty(u8),
 }
 
 // The character of a code.
@@ -260,4 +283,38 @@ fn head_at(from: Cursor, codewords: &[u8], v: usize) -> Heading
         return Heading::Refused(14);
     }
     Heading::Found(Head { mode, count, body })
+}
+
+// One segment more: its characters after those used, its mode and count after the segments before it.
+fn next_segment(
+    p: Progress,
+    codewords: &[u8],
+    v: usize,
+    payload: &mut [u8],
+    list: &mut [u16],
+) -> Step
+    requires { ⌜ StepAsks (now codewords) v p (now payload) (now list) ⌝ }
+    ensures { λ r. ⌜ StepReads (now (codewords .entry)) v p (now (payload .entry)) (now (list .entry)) (now (payload .exit)) (now (list .exit)) r ⌝ }
+{
+    let from = p.cursor;
+    let used = p.used;
+    let segments = p.segments;
+    let head = match head_at(from, codewords, v) {
+        Heading::Found(h) => h,
+        Heading::Refused(n) => return Step::NoStep(n),
+    };
+    let mode = head.mode;
+    let count = head.count;
+    let body = head.body;
+    let Reading::Past(next) = read_body(body, codewords, mode, count, payload, used) else {
+        return Step::NoStep(15);
+    };
+    let i = 2 * segments;
+    list[i] = mode as u16;
+    list[i + 1] = count as u16;
+    Step::Next(Progress {
+        cursor: next,
+        used: used + count,
+        segments: segments + 1,
+    })
 }

@@ -1,0 +1,90 @@
+-- One segment more: it has room in both buffers, and what the step leaves there is what the front of the stream says.
+-- Assumes nothing.
+use mathlib.Core.Path.{_≡_, refl, sym, ap, ap₂, subst, _∙_}
+use mathlib.Core.Bool.{Bool, true, false, cond}
+use mathlib.Core.List.{List, [], _∷_, _++_}
+use Prim.Native.Nat.{ℕ, _+_, _-_, _*_, _<_, _≤_}
+use native.Mathlib.Omega.{arith}
+use lib.Dec.{leb}
+use lib.ListN.{length, take, drop, set}
+use lib.Seq.{drop-drop}
+use Rattle.basics.specs.Bits.{byteBits, number}
+use Rattle.basics.proofs.Bits.{byteBits-le}
+use Rattle.cursor.specs.Cursor.{field}
+use Rattle.cursor.specs.declared.Cursor.{Cursor}
+use Rattle.tables.specs.Tables.{countWidth}
+use Rattle.stream.specs.Stream.{known, bodyWidth}
+use Rattle.parse.specs.declared.Head.{Head}
+use Rattle.parse.specs.declared.Progress.{Progress}
+use Rattle.parse.specs.declared.Reading.the-variants.{Past, OutOfRange}
+use Rattle.parse.specs.Parse.{characters, inRange, Segment, Refusal, headWidth, ends, front, mostData}
+use Rattle.parse.specs.Steps.{Stands, HeadReads, BodyAsks, BodyReads, Load, StepAsks, Stepped}
+use Rattle.parse.proofs.Front.{known-small, whole-segment}
+use Rattle.parse.proofs.Groups.{put-two}
+use Rattle.parse.proofs.Heads.{left-bits, field-small, width-small, going, stands-whole, stands-broken}
+use Rattle.parse.proofs.Load.{load-more, load-enough}
+
+most-small : (v : ℕ) → mostData v ≤ 274
+most-small v = at (leb v 9)
+  where
+    at : (t : Bool) → cond t 232 274 ≤ 274
+    at true = omega arith
+    at false = omega arith
+
+module _ (codewords : List ℕ) (v : ℕ) (p : Progress) (payload list : List ℕ) (a : StepAsks codewords v p payload list) where
+  pub few-codewords : length codewords ≤ 274
+  few-codewords = omega (arith, a .short, most-small v)
+
+  module _ (mode count : ℕ) (s : Stands v mode count (drop (p .cursor .at) (byteBits codewords))) where
+    -- the load with this segment
+    load : Load (leb v 9) (p .cursor .at + (4 + countWidth v mode + bodyWidth mode count)) (p .used + count) (p .segments + 1)
+    load = load-more v mode count (p .cursor .at) (p .used) (p .segments) (s .knows) (a .load)
+
+    within : p .cursor .at + (headWidth v mode + bodyWidth mode count) ≤ 8 * length codewords
+    within = omega (arith, s .holds, left-bits codewords (p .cursor .at), going codewords (p .cursor .at) (a .goes))
+
+    enough : (p .used + count ≤ 652) × (p .segments + 1 ≤ 154)
+    unfolding headWidth
+    enough = load-enough v (p .cursor .at + (4 + countWidth v mode + bodyWidth mode count)) (p .used + count) (p .segments + 1) load (omega (arith, within, a .short))
+
+    pub room-chars : p .used + count ≤ 652
+    room-chars = enough .0
+
+    pub room-pairs : p .segments + 1 ≤ 154
+    room-pairs = enough .1
+
+    pub mode-fits : mode < 65536
+    mode-fits = omega (arith, known-small mode (s .knows))
+
+    pub count-fits : count < 65536
+    unfolding field
+    count-fits =
+        let e : field codewords (p .cursor .at + 4) (countWidth v mode) ≡ count
+        = ap (λ (bs : List ℕ). number (take (countWidth v mode) bs)) (sym (drop-drop 4 (p .cursor .at) (byteBits codewords))) ∙ s .counts in
+        rw (← e) (field-small codewords (p .cursor .at + 4) (countWidth v mode) (width-small v mode))
+
+    module _ (b : ℕ) (e : b ≡ p .cursor .at + headWidth v mode) where
+      pub body-asks : BodyAsks codewords b mode count (p .used) (length payload)
+      body-asks = record { short = few-codewords; knows = s .knows; holds = omega (arith, within); rooms = omega (arith, room-chars, a .rooms) }
+
+      the-body : drop b (byteBits codewords) ≡ drop (headWidth v mode) (drop (p .cursor .at) (byteBits codewords))
+      the-body = ap (λ (n : ℕ). drop n (byteBits codewords)) e ∙ sym (drop-drop (headWidth v mode) (p .cursor .at) (byteBits codewords))
+
+      pub step-broken : inRange mode count (drop b (byteBits codewords)) ≡ false → front v (drop (p .cursor .at) (byteBits codewords)) ≡ Refusal 15
+      step-broken r = stands-broken v mode count (drop (p .cursor .at) (byteBits codewords)) s (a .goes) (rw the-body at r)
+
+      pub step-done : (after : List ℕ) (next : Cursor) → BodyReads codewords b mode count (p .used) payload after (Past next)
+          → Stepped codewords v p payload list after (set (set list (2 * p .segments) mode) (2 * p .segments + 1) count)
+          (record { cursor = next; used = p .used + count; segments = p .segments + 1 })
+      step-done after next r = record {
+        mode = mode;
+        count = count;
+        fronts =
+            whole-segment v mode count (drop (p .cursor .at) (byteBits codewords))
+            (stands-whole v mode count (drop (p .cursor .at) (byteBits codewords)) s (rw the-body at (r .0)));
+        place = omega (arith, r .2, e);
+        uses = refl;
+        more = refl;
+        chars = rw the-body at (r .1);
+        lists = put-two list (2 * p .segments) mode count (omega (arith, room-pairs, a .pairs));
+      }
