@@ -1,6 +1,9 @@
 pub mod Along
+pub mod Answer
 pub mod Body
+pub mod Copying
 pub mod Encode
+pub mod Filling
 pub mod Front
 pub mod Groups
 pub mod Heads

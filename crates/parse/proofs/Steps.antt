@@ -24,7 +24,7 @@ use Rattle.parse.proofs.Groups.{put-two}
 use Rattle.parse.proofs.Heads.{left-bits, field-small, width-small, going, stands-whole, stands-broken}
 use Rattle.parse.proofs.Load.{load-more, load-enough}
 
-most-small : (v : ℕ) → mostData v ≤ 274
+pub most-small : (v : ℕ) → mostData v ≤ 274
 most-small v = at (leb v 9)
   where
     at : (t : Bool) → cond t 232 274 ≤ 274

@@ -1,3 +1,4 @@
+pub mod Answer
 pub mod Groups
 pub mod Parse
 pub mod Steps

@@ -7,8 +7,9 @@ ghost use Prim.Native.Nat.{_+_, _*_, _≤_, _<_};
 ghost use lib.ListN.{length, take, drop};
 ghost use Rattle.basics.specs.Bits.{byteBits};
 ghost use Rattle.stream.specs.Stream.{character as characterOf};
-ghost use Rattle.parse.specs.Parse.{ends as doesEnd};
-ghost use Rattle.parse.specs.Steps.{HeadReads, BodyAsks, BodyReads, StepAsks, StepReads};
+ghost use Rattle.parse.specs.Parse.{ends as doesEnd, mostData, message};
+ghost use Rattle.parse.specs.Answer.{answerOf, payloadAfter, listAfter};
+ghost use Rattle.parse.specs.Steps.{HeadReads, BodyAsks, BodyReads, StepAsks, StepReads, FillReads};
 ghost use Rattle.parse.specs.Groups.{groupOf, groupCharacters, InGroup};
 
 // The characters in the order of their codes.
@@ -317,4 +318,75 @@ fn next_segment(
         used: used + count,
         segments: segments + 1,
     })
+}
+
+// The whole message at the fronts of both buffers; or the first fault.
+fn fill(codewords: &[u8], v: usize, payload: &mut [u8], list: &mut [u16]) -> Parsing
+    requires { ⌜ (length (now codewords) ≤ mostData v) × ((652 ≤ length (now payload)) × (308 ≤ length (now list))) ⌝ }
+    ensures { λ r. ⌜ FillReads (now (codewords .entry)) v (now (payload .exit)) (now (list .exit)) r ⌝ }
+{
+    let mut at: usize = 0;
+    let mut used: usize = 0;
+    let mut segments: usize = 0;
+    while !ends(Cursor { at }, codewords) {
+        let p = Progress {
+            cursor: Cursor { at },
+            used,
+            segments,
+        };
+        let q = match next_segment(p, codewords, v, payload, list) {
+            Step::Next(q) => q,
+            Step::NoStep(n) => return Parsing::Faulty(n),
+        };
+        let next = q.cursor;
+        at = next.at;
+        used = q.used;
+        segments = q.segments;
+    }
+    Parsing::Whole(Sizes {
+        payload: used,
+        segments,
+    })
+}
+
+// s over the front of out.
+fn copy_bytes(s: &[u8], out: &mut [u8])
+    requires { ⌜ length (now s) ≤ length (now out) ⌝ }
+    ensures { λ _. ⌜ now (out .exit) ≡ now (s .entry) ++ drop (length (now (s .entry))) (now (out .entry)) ⌝ }
+{
+    let mut i: usize = 0;
+    while i < s.len() {
+        out[i] = s[i];
+        i += 1;
+    }
+}
+
+// The same for numbers of 16 bits.
+fn copy_numbers(s: &[u16], out: &mut [u16])
+    requires { ⌜ length (now s) ≤ length (now out) ⌝ }
+    ensures { λ _. ⌜ now (out .exit) ≡ now (s .entry) ++ drop (length (now (s .entry))) (now (out .entry)) ⌝ }
+{
+    let mut i: usize = 0;
+    while i < s.len() {
+        out[i] = s[i];
+        i += 1;
+    }
+}
+
+// What the data codewords of a version hold, written to the fronts of payload and list; or the first fault, and both as they were.
+pub fn parse(codewords: &[u8], v: usize, payload: &mut [u8], list: &mut [u16]) -> Parsing
+    requires { ⌜ (length (now codewords) ≤ mostData v) × ((652 ≤ length (now payload)) × (308 ≤ length (now list))) ⌝ }
+    ensures { λ r. ⌜ (r ≡ answerOf (message v (now (codewords .entry)))) × ((now (payload .exit) ≡ payloadAfter (message v (now (codewords .entry))) (now (payload .entry))) × (now (list .exit) ≡ listAfter (message v (now (codewords .entry))) (now (list .entry)))) ⌝ }
+{
+    let mut bytes = [0u8; 652];
+    let mut pairs = [0u16; 308];
+    let sizes = match fill(codewords, v, &mut bytes, &mut pairs) {
+        Parsing::Whole(s) => s,
+        Parsing::Faulty(n) => return Parsing::Faulty(n),
+    };
+    let n = sizes.payload;
+    let m = 2 * sizes.segments;
+    copy_bytes(&bytes[..n], payload);
+    copy_numbers(&pairs[..m], list);
+    Parsing::Whole(sizes)
 }
