@@ -65,3 +65,7 @@ one-poly n (suc k) = sym (ap elt (zeros-at n k))
 pub running-start : (s : List ℕ) → Running s 0 0 (1 ∷ replicate 31 0) (replicate 32 0) 1
 running-start s =
     subst₃ (Run gf256 32 (poly s) 0 0) (fun-ext (one-poly 31)) (fun-ext (λ k. sym (ap elt (zeros-at 32 k)))) refl (start gf256 32 (poly s))
+
+pub inverse-start : 1 ≡ invN 1
+unfolding invN
+inverse-start = refl

@@ -1,7 +1,7 @@
 // The corrector: the one codeword that a block stands for, or none.
 ghost use mathlib.Core.Path.{_≡_};
 ghost use mathlib.Core.Bool.{cond, not, _&&_};
-ghost use Prim.Native.Nat.{ℕ, _+_, _-_, _<_, _≤_};
+ghost use Prim.Native.Nat.{ℕ, suc, _+_, _-_, _<_, _≤_};
 ghost use lib.Dec.{eqb};
 ghost use lib.ListN.{length, getD};
 ghost use Rattle.basics.specs.Build.{build};
@@ -9,7 +9,7 @@ ghost use Rattle.basics.specs.Sums.{one};
 ghost use Rattle.field.specs.Field.{mulN, invN};
 ghost use Rattle.field.proofs.Byte.{elt};
 ghost use Rattle.theory.proofs.Sum.{sum};
-ghost use Rattle.theory.proofs.Run.{act, eval};
+ghost use Rattle.theory.proofs.Run.{act, eval, Below};
 ghost use Rattle.theory.proofs.Values.{product, evaluator, slope};
 ghost use Rattle.theory.proofs.Gf.{gf256};
 ghost use Rattle.corrector.specs.Lanes.{filled, timesPlus, lowered, late, raised, poly, Running};
@@ -30,13 +30,6 @@ fn times_plus(a: [u8; 32], b: [u8; 32], c: [u8; 32]) -> [u8; 32]
     r
 }
 
-// The entry k of a, and 0 past its end.
-fn entry(a: [u8; 32], k: usize) -> u8
-    ensures { λ r. ⌜ r ≡ getD a k 0 ⌝ }
-{
-    if k < 32 { a[k] } else { 0 }
-}
-
 // a without its first i entries.
 fn lower(a: [u8; 32], i: usize) -> [u8; 32]
     requires { ⌜ i ≤ 32 ⌝ }
@@ -44,29 +37,22 @@ fn lower(a: [u8; 32], i: usize) -> [u8; 32]
 {
     let mut r: [u8; 32] = [0; 32];
     let mut k: usize = 0;
-    while k < 32 {
-        r[k] = entry(a, i + k);
+    while i + k < 32 {
+        r[k] = a[i + k];
         k += 1;
     }
     r
 }
 
-// The entry h of a, moved up by k places.
-fn moved(a: [u8; 32], k: usize, h: usize) -> u8
-    requires { ⌜ h < 32 ⌝ }
-    ensures { λ r. ⌜ r ≡ late k (λ x. getD a x 0) h ⌝ }
-{
-    if h < k { 0 } else { a[h - k] }
-}
-
 // a moved up by k places.
 fn raise(a: [u8; 32], k: usize) -> [u8; 32]
+    requires { ⌜ k ≤ 32 ⌝ }
     ensures { λ r. ⌜ r ≡ raised a k ⌝ }
 {
     let mut r: [u8; 32] = [0; 32];
-    let mut h: usize = 0;
+    let mut h: usize = k;
     while h < 32 {
-        r[h] = moved(a, k, h);
+        r[h] = a[h - k];
         h += 1;
     }
     r
@@ -86,12 +72,14 @@ fn total(a: [u8; 32]) -> u8
 }
 
 // A polynomial a of degree l, which is 0 on the first i windows of the values, and what it was before it last grew, which was e where it failed.
+// f is the inverse of e.
 struct State {
     a: [u8; 32],
     b: [u8; 32],
     i: usize,
     l: usize,
     e: u8,
+    f: u8,
 }
 
 // The polynomial a on the values from i on.
@@ -106,6 +94,7 @@ fn window(a: [u8; 32], s: [u8; 32], i: usize) -> u8
 
 // a moved up by j places, and q times b moved up by k places.
 fn mixed(a: [u8; 32], j: usize, b: [u8; 32], k: usize, q: u8) -> [u8; 32]
+    requires { ⌜ (j ≤ 32) × (k ≤ 32) ⌝ }
     ensures { λ r. ⌜ r ≡ timesPlus (raised b k) (filled q) (raised a j) ⌝ }
 {
     let high = raise(a, j);
@@ -116,14 +105,15 @@ fn mixed(a: [u8; 32], j: usize, b: [u8; 32], k: usize, q: u8) -> [u8; 32]
 
 // One more value of s.
 fn step(st: State, s: [u8; 32]) -> State
-    requires { ⌜ Running s (st .i) (st .l) (st .a) (st .b) (st .e) × (st .i + st .l < 30) ⌝ }
-    ensures { λ r. ⌜ Running s (r .i) (r .l) (r .a) (r .b) (r .e) × (r .i + r .l ≡ st .i + st .l + 1) ⌝ }
+    requires { ⌜ Running s (st .i) (st .l) (st .a) (st .b) (st .e) × (st .i + st .l < 30) × (st .f ≡ invN (st .e)) ⌝ }
+    ensures { λ r. ⌜ Running s (r .i) (r .l) (r .a) (r .b) (r .e) × (r .i + r .l ≡ st .i + st .l + 1) × (r .f ≡ invN (r .e)) ⌝ }
 {
     let a = st.a;
     let b = st.b;
     let i = st.i;
     let l = st.l;
     let e = st.e;
+    let f = st.f;
     let d = window(a, s, i);
     if d == 0 {
         return State {
@@ -132,9 +122,10 @@ fn step(st: State, s: [u8; 32]) -> State
             i: i + 1,
             l: l,
             e: e,
+            f: f,
         };
     }
-    let q = field::mul(d, field::inv(e));
+    let q = field::mul(d, f);
     if i < l {
         let r = mixed(a, 0, b, l - 1 - i, q);
         State {
@@ -143,6 +134,7 @@ fn step(st: State, s: [u8; 32]) -> State
             i: i + 1,
             l: l,
             e: e,
+            f: f,
         }
     } else {
         let r = mixed(a, i + 1 - l, b, 0, q);
@@ -152,6 +144,7 @@ fn step(st: State, s: [u8; 32]) -> State
             i: l,
             l: i + 1,
             e: d,
+            f: field::inv(d),
         }
     }
 }
@@ -170,6 +163,7 @@ fn run(s: [u8; 32], m: usize) -> State
         i: 0,
         l: 0,
         e: 1,
+        f: 1,
     };
     let mut n: usize = 0;
     while n < m {
@@ -322,12 +316,13 @@ fn locator(xs: [u8; 32], count: usize) -> [u8; 32]
 }
 
 // The sums s multiplied by the polynomial a: at a root of a, what its quotient makes of the sums.
-fn evaluator(a: [u8; 32], s: [u8; 32]) -> [u8; 32]
+fn evaluator(a: [u8; 32], s: [u8; 32], count: usize) -> [u8; 32]
+    requires { ⌜ (count ≤ 31) × Below gf256 (suc count) (poly a) ⌝ }
     ensures { λ r. ⌜ ((h : ℕ) → poly r h ≡ evaluator gf256 32 (poly a) (poly s) h) ⌝ }
 {
     let mut r: [u8; 32] = [0; 32];
     let mut k: usize = 0;
-    while k < 32 {
+    while k < count {
         let low = lower(a, k + 1);
         let factor: [u8; 32] = [s[k]; 32];
         let next = times_plus(low, factor, r);
@@ -337,12 +332,13 @@ fn evaluator(a: [u8; 32], s: [u8; 32]) -> [u8; 32]
     r
 }
 
-// What the polynomial a is at each of the xs.
-fn values(a: [u8; 32], xs: [u8; 32]) -> [u8; 32]
+// What the polynomial a, of at most m coefficients, is at each of the xs.
+fn values(a: [u8; 32], m: usize, xs: [u8; 32]) -> [u8; 32]
+    requires { ⌜ (m ≤ 32) × Below gf256 m (poly a) ⌝ }
     ensures { λ r. ⌜ ((i : ℕ) → i < 32 → poly r i ≡ eval gf256 32 (poly a) (poly xs i)) ⌝ }
 {
     let mut r: [u8; 32] = [0; 32];
-    let mut k: usize = 32;
+    let mut k: usize = m;
     while 0 < k {
         k -= 1;
         let term: [u8; 32] = [a[k]; 32];
@@ -353,12 +349,13 @@ fn values(a: [u8; 32], xs: [u8; 32]) -> [u8; 32]
 }
 
 // What its quotient by the variable minus x is at x, for each x of the xs.
-fn slopes(a: [u8; 32], xs: [u8; 32]) -> [u8; 32]
+fn slopes(a: [u8; 32], m: usize, xs: [u8; 32]) -> [u8; 32]
+    requires { ⌜ (m ≤ 32) × Below gf256 m (poly a) ⌝ }
     ensures { λ r. ⌜ ((i : ℕ) → i < 32 → poly r i ≡ slope gf256 32 (poly a) (poly xs i)) ⌝ }
 {
     let mut r: [u8; 32] = [0; 32];
     let mut p: [u8; 32] = [0; 32];
-    let mut k: usize = 32;
+    let mut k: usize = m;
     while 0 < k {
         k -= 1;
         let up = times_plus(r, xs, p);
@@ -370,15 +367,20 @@ fn slopes(a: [u8; 32], xs: [u8; 32]) -> [u8; 32]
     r
 }
 
-// a by b, lane by lane.
-fn quotients(a: [u8; 32], b: [u8; 32]) -> [u8; 32]
-    ensures { λ r. ⌜ r ≡ build (λ i. mulN (getD a i 0) (invN (getD b i 0))) 32 ⌝ }
+// The inverse in each lane.
+fn inverses(a: [u8; 32]) -> [u8; 32]
+    ensures { λ r. ⌜ ((i : ℕ) → i < 32 → getD r i 0 ≡ invN (getD a i 0)) ⌝ }
 {
-    let mut r: [u8; 32] = [0; 32];
-    let mut i: usize = 0;
-    while i < 32 {
-        r[i] = field::mul(a[i], field::inv(b[i]));
-        i += 1;
+    let zeros: [u8; 32] = [0; 32];
+    let mut r: [u8; 32] = [1; 32];
+    let mut s = a;
+    let mut k: usize = 7;
+    while 0 < k {
+        k -= 1;
+        let square = times_plus(s, s, zeros);
+        s = square;
+        let next = times_plus(r, s, zeros);
+        r = next;
     }
     r
 }
@@ -403,11 +405,11 @@ fn mended(word: &[u8], at: [u8; 32], values: [u8; 32], count: usize) -> [u8; 255
     ensures { λ r. ⌜ Mended (now (word .entry)) at values count r ⌝ }
 {
     let mut r = copied(word);
-    let mut k: usize = 0;
-    while k < count {
-        let j = at[k] as usize;
-        r[j] = word[j] ^ values[k];
-        k += 1;
+    let mut done: usize = 0;
+    while done < count {
+        let j = at[done] as usize;
+        r[j] = word[j] ^ values[done];
+        done += 1;
     }
     r
 }
@@ -418,10 +420,11 @@ fn magnitudes(xs: [u8; 32], count: usize, s: [u8; 32]) -> [u8; 32]
     ensures { λ r. ⌜ Magnitudes xs count s r ⌝ }
 {
     let product = locator(xs, count);
-    let sums = evaluator(product, s);
-    let tops = values(sums, xs);
-    let bottoms = slopes(product, xs);
-    quotients(tops, bottoms)
+    let sums = evaluator(product, s, count);
+    let tops = values(sums, count, xs);
+    let bottoms = slopes(product, count + 1, xs);
+    let zeros: [u8; 32] = [0; 32];
+    times_plus(tops, inverses(bottoms), zeros)
 }
 
 // The codeword that the block stands for, where it stands for one.

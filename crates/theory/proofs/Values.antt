@@ -49,9 +49,9 @@ module _ (K : Field) where
   unfolding slopes quotient tail
   slopes-step n A x k b = tail-step n (quotient K n A x) x k (quotient-below K n n A x (λ h q. b h (omega arith))) ∙ simp (slopes, tail, quotient, suc-add)
 
-  pub slopes-end : (n : ℕ) (A : ℕ → F) (x : F) → Below K n A → slopes n A x n ≡ 𝟘
+  pub slopes-end : (n : ℕ) (A : ℕ → F) (x : F) (k : ℕ) → Below K k A → slopes n A x k ≡ 𝟘
   unfolding slopes
-  slopes-end n A x b = tail-end n (quotient K n A x) x n (quotient-below K n n A x (λ h q. b h (omega arith)))
+  slopes-end n A x k b = tail-end n (quotient K n A x) x k (quotient-below K n k A x (λ h q. b h (omega arith)))
 
   pub slopes-all : (n : ℕ) (A : ℕ → F) (x : F) → slopes n A x 0 ≡ slope n A x
   unfolding slopes slope
@@ -98,6 +98,10 @@ module _ (K : Field) where
   -- the sums of a word, multiplied by A and divided by powers of the variable: at a root of A they are those of the quotient
   unfoldable pub evaluator : ℕ → (A s : ℕ → F) → ℕ → F
   evaluator n A s l = sum K n (λ k. A (suc (l + k)) ⊗ s k)
+
+  pub evaluator-below : (n m : ℕ) (A s : ℕ → F) → Below K (suc m) A → Below K m (evaluator n A s)
+  unfolding evaluator
+  evaluator-below n m A s b h l = sum-zero K n (λ k q. rw (b (suc (h + k)) (omega arith)) (zero-⊗ K _))
 
   evaluator-eval : (n : ℕ) (A s : ℕ → F) (x : F) → eval K n (evaluator n A s) x ≡ act K n (quotient K n A x) s 0
   unfolding evaluator eval quotient act

@@ -9,8 +9,7 @@ use lib.ListN.{length, getD}
 use Rattle.theory.proofs.Gf.{gf256}
 use Rattle.corrector.specs.Lanes.{filled, timesPlus, poly}
 use Rattle.corrector.proofs.Rows.{Row, zeros-row, unit-row}
-use Rattle.theory.proofs.Values.{evaluator}
-use Rattle.corrector.proofs.Turns.{Summed, summed-start, summed-turn}
+use Rattle.corrector.proofs.Turns.{Summed, summed-start, summed-turn, summed-all}
 use Rattle.corrector.proofs.evaluator.Statement.{statement}
 use Rattle.corrector.proofs.evaluator.Tie as tie
 use Rattle.corrector.proofs.evaluator.Reads as reads
@@ -19,10 +18,10 @@ use Rattle.corrector.proofs.lower.Reads as lower-reads
 use Rattle.corrector.proofs.times_plus.Reads as times-plus-reads
 
 abbrev Inv-loop : tie.InvT-loop
-Inv-loop a s r₀ k₀ r k = Row r × (k ≤ 32) × Summed a s r k
+Inv-loop a count s r₀ k₀ r k = Row r × (k ≤ count) × Summed a s r k
 
 abbrev μ-loop : tie.MeasureT-loop
-μ-loop a s r₀ k₀ r k = 32 - k
+μ-loop a count s r₀ k₀ r k = count - k
 
 loop-holds : tie.Need-loop-holds Inv-loop μ-loop
 unfolding filled
@@ -58,11 +57,11 @@ loop-again c =
     (record { long = search needs; bytes = λ h. let f : Fits w8 (getD t h 0) = search needs in omega (arith, f) }, omega arith, λ h. ap (λ u. poly u h) made ∙ summed-turn a s (l .r) (l .k) (λ h. let f : Fits w8 (getD a h 0) = search needs in omega (arith, f)) (search needs) (l .inv .0 .long) (l .inv .2) h)
 
 returns : tie.Need-returns Inv-loop μ-loop
-unfolding evaluator
 returns c =
     let l = c .before .loop in
-    let e : l .k ≡ 32 = omega arith in
-    rw e at (l .inv .2)
+    let start = c .before .before in
+    let e : l .k ≡ start .args .count = omega arith in
+    summed-all (start .args .a) (start .args .t2) (l .r) (start .args .count) (omega arith) (start .pre .1) (rw e at (l .inv .2))
 
 pub evaluator-spec : {M : Type 1} → statement M
 evaluator-spec =

@@ -1,33 +1,30 @@
 -- `corrector::lower` meets its contract. Assumes nothing.
 use borrow.Author.Needs.{needs}
 use Prim.Native.Nat.{_+_, _-_, _≤_}
-use mathlib.Core.Path.{_≡_, refl}
 use native.Mathlib.Omega.{arith}
-use lib.ListN.{length, getD, take, length-set}
-use Rattle.basics.specs.Build.{build}
-use Rattle.basics.proofs.Build.{build-put, build-all}
-use Rattle.corrector.specs.Lanes.{late, lowered, raised}
+use Rattle.corrector.proofs.Late.{Lowering, lowered-start, lowered-turn, lowered-all}
 use Rattle.corrector.proofs.lower.Statement.{statement}
 use Rattle.corrector.proofs.lower.Tie as tie
 use Rattle.corrector.proofs.lower.Reads as reads
 use Rattle.corrector.proofs.lower.Lts as lts
-use Rattle.corrector.proofs.entry.Reads as entry-reads
 
 abbrev Inv-loop : tie.InvT-loop
-Inv-loop a i r₀ k₀ r k = (k ≤ 32) × (length r ≡ 32) × (take k r ≡ build (λ k. getD a (i + k) 0) k)
+Inv-loop i a r₀ k₀ r k = (k ≤ 32) × (i + k ≤ 32) × Lowering a i k r
 
 abbrev μ-loop : tie.MeasureT-loop
-μ-loop a i r₀ k₀ r k = 32 - k
+μ-loop i a r₀ k₀ r k = 32 - k
 
 loop-holds : tie.Need-loop-holds Inv-loop μ-loop
-unfolding build
-loop-holds c = (omega arith, refl, refl)
+loop-holds c = (omega arith, omega arith, lowered-start _ _)
 
-add-entry : tie.Need-add-entry Inv-loop μ-loop
-add-entry c = search needs
+add-loop : tie.Need-add-loop Inv-loop μ-loop
+add-loop c = search needs
 
-entry-requires : tie.Need-entry-requires Inv-loop μ-loop
-entry-requires c κs = search needs
+add-r : tie.Need-add-r Inv-loop μ-loop
+add-r c = search needs
+
+array-read-r : tie.Need-array-read-r Inv-loop μ-loop
+array-read-r c = search needs
 
 array-write-r : tie.Need-array-write-r Inv-loop μ-loop
 array-write-r c = search needs
@@ -40,15 +37,15 @@ loop-less c = search needs
 
 loop-again : tie.Need-loop-again Inv-loop μ-loop
 loop-again c =
-    let l = c .before .before .loop in
-    (omega arith, simp length-set (l .inv .1), build-put _ (l .r) (l .k) _ (l .inv .2) (omega arith) (c .entry .ensures))
+    let l = c .before .loop in
+    let a = c .before .before .args in
+    (omega arith, omega arith, lowered-turn (a .t1) (l .r) (a .i) (l .k) (omega arith) (l .inv .2))
 
 returns : tie.Need-returns Inv-loop μ-loop
-unfolding lowered
 returns c =
     let l = c .before .loop in
-    let e : l .k ≡ 32 = omega arith in
-    build-all _ (l .r) 32 (l .inv .1) (rw e at (l .inv .2))
+    let a = c .before .before .args in
+    lowered-all (a .t1) (l .r) (a .i) (l .k) (search needs) (omega arith) (l .inv .2)
 
 pub lower-spec : {M : Type 1} → statement M
 lower-spec =
@@ -57,8 +54,9 @@ lower-spec =
     Inv-loop
     μ-loop
     loop-holds
-    add-entry
-    entry-requires
+    add-loop
+    add-r
+    array-read-r
     array-write-r
     add-k
     loop-less

@@ -32,19 +32,19 @@ array-read-j : tie.Need-array-read-j Inv-loop μ-loop
 array-read-j c = search needs
 
 cast-j : tie.Need-cast-j Inv-loop μ-loop
-cast-j c = let f : Fits w8 (getD (c .before .before .before .before .args .t2) (c .before .loop .k) 0) = search needs in search needs
+cast-j c = let f : Fits w8 (getD (c .before .before .before .before .args .t2) (c .before .loop .done) 0) = search needs in search needs
 
 shared-slice-read-r : tie.Need-shared-slice-read-r Inv-loop μ-loop
-shared-slice-read-r c = c .before .before .before .before .before .pre .2 (c .before .before .loop .k) (omega arith)
+shared-slice-read-r c = c .before .before .before .before .before .pre .2 (c .before .before .loop .done) (omega arith)
 
 array-read-r : tie.Need-array-read-r Inv-loop μ-loop
 array-read-r c = search needs
 
 array-write-r : tie.Need-array-write-r Inv-loop μ-loop
-array-write-r c = omega (arith, c .before .before .before .before .before .pre .2 (c .before .before .loop .k) (omega arith))
+array-write-r c = omega (arith, c .before .before .before .before .before .pre .2 (c .before .before .loop .done) (omega arith))
 
-add-k : tie.Need-add-k Inv-loop μ-loop
-add-k c = search needs
+add-done : tie.Need-add-done Inv-loop μ-loop
+add-done c = search needs
 
 loop-less : tie.Need-loop-less Inv-loop μ-loop
 loop-less c = search needs
@@ -55,13 +55,13 @@ loop-again c =
     let start = c .before .before .before .before .before in (
       omega arith,
       simp length-set (l .inv .1),
-      mended-step (start .args .word .now) (start .args .t2) (start .args .t3) (l .k) (l .r) (omega (arith, start .pre .2 (l .k) (omega arith))) (l .inv .2),
+      mended-step (start .args .word .now) (start .args .t2) (start .args .t3) (l .done) (l .r) (omega (arith, start .pre .2 (l .done) (omega arith))) (l .inv .2),
     )
 
 returns : tie.Need-returns Inv-loop μ-loop
 returns c =
     let l = c .before .loop in
-    let e : l .k ≡ c .before .before .before .before .args .count = omega arith in
+    let e : l .done ≡ c .before .before .before .before .args .count = omega arith in
     rw e at (l .inv .2)
 
 pub mended-spec : {M : Type 1} → statement M
@@ -77,7 +77,7 @@ mended-spec =
     shared-slice-read-r
     array-read-r
     array-write-r
-    add-k
+    add-done
     loop-less
     loop-again
     returns)

@@ -1,30 +1,27 @@
 -- `corrector::raise` meets its contract. Assumes nothing.
 use borrow.Author.Needs.{needs}
 use Prim.Native.Nat.{_+_, _-_, _≤_}
-use mathlib.Core.Path.{_≡_, refl}
 use native.Mathlib.Omega.{arith}
-use lib.ListN.{length, getD, take, length-set}
-use Rattle.basics.specs.Build.{build}
-use Rattle.basics.proofs.Build.{build-put, build-all}
-use Rattle.corrector.specs.Lanes.{late, lowered, raised}
+use Rattle.corrector.proofs.Late.{Raising, raised-start, raised-turn, raised-all}
 use Rattle.corrector.proofs.raise.Statement.{statement}
 use Rattle.corrector.proofs.raise.Tie as tie
 use Rattle.corrector.proofs.raise.Reads as reads
 use Rattle.corrector.proofs.raise.Lts as lts
-use Rattle.corrector.proofs.moved.Reads as moved-reads
 
 abbrev Inv-loop : tie.InvT-loop
-Inv-loop a k r₀ h₀ r h = (h ≤ 32) × (length r ≡ 32) × (take h r ≡ build (late k (λ x. getD a x 0)) h)
+Inv-loop k a r₀ h₀ r h = (k ≤ h) × (h ≤ 32) × Raising a k h r
 
 abbrev μ-loop : tie.MeasureT-loop
-μ-loop a k r₀ h₀ r h = 32 - h
+μ-loop k a r₀ h₀ r h = 32 - h
 
 loop-holds : tie.Need-loop-holds Inv-loop μ-loop
-unfolding build
-loop-holds c = (omega arith, refl, refl)
+loop-holds c = (omega arith, omega arith, raised-start _ _)
 
-moved-requires : tie.Need-moved-requires Inv-loop μ-loop
-moved-requires c κs = search needs
+sub-r : tie.Need-sub-r Inv-loop μ-loop
+sub-r c = search needs
+
+array-read-r : tie.Need-array-read-r Inv-loop μ-loop
+array-read-r c = search needs
 
 array-write-r : tie.Need-array-write-r Inv-loop μ-loop
 array-write-r c = search needs
@@ -37,15 +34,15 @@ loop-less c = search needs
 
 loop-again : tie.Need-loop-again Inv-loop μ-loop
 loop-again c =
-    let l = c .before .before .loop in
-    (omega arith, simp length-set (l .inv .1), build-put _ (l .r) (l .h) _ (l .inv .2) (omega arith) (c .moved .ensures))
+    let l = c .before .loop in
+    let a = c .before .before .args in
+    (omega arith, omega arith, raised-turn (a .t1) (l .r) (a .k) (l .h) (omega arith) (omega arith) (l .inv .2))
 
 returns : tie.Need-returns Inv-loop μ-loop
-unfolding raised
 returns c =
     let l = c .before .loop in
-    let e : l .h ≡ 32 = omega arith in
-    build-all _ (l .r) 32 (l .inv .1) (rw e at (l .inv .2))
+    let a = c .before .before .args in
+    raised-all (a .t1) (l .r) (a .k) (l .h) (omega arith) (l .inv .2)
 
 pub raise-spec : {M : Type 1} → statement M
 raise-spec =
@@ -54,7 +51,8 @@ raise-spec =
     Inv-loop
     μ-loop
     loop-holds
-    moved-requires
+    sub-r
+    array-read-r
     array-write-r
     add-h
     loop-less

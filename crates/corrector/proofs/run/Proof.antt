@@ -3,8 +3,9 @@ use borrow.Author.Needs.{needs}
 use mathlib.Core.Path.{_≡_, refl}
 use Prim.Native.Nat.{_+_, _-_, _≤_}
 use native.Mathlib.Omega.{arith}
+use Rattle.field.specs.Field.{invN}
 use Rattle.corrector.specs.Lanes.{Running}
-use Rattle.corrector.proofs.Running.{running-start}
+use Rattle.corrector.proofs.Running.{running-start, inverse-start}
 use Rattle.corrector.proofs.run.Statement.{statement}
 use Rattle.corrector.proofs.run.Tie as tie
 use Rattle.corrector.proofs.run.Reads as reads
@@ -12,7 +13,7 @@ use Rattle.corrector.proofs.run.Lts as lts
 use Rattle.corrector.proofs.step.Reads as step-reads
 
 abbrev Inv-loop : tie.InvT-loop
-Inv-loop s m st₀ n₀ st n = Running s (st .i) (st .l) (st .a) (st .b) (st .e) × (st .i + st .l ≡ n) × (n ≤ m)
+Inv-loop s m st₀ n₀ st n = Running s (st .i) (st .l) (st .a) (st .b) (st .e) × (st .i + st .l ≡ n) × (n ≤ m) × (st .f ≡ invN (st .e))
 
 abbrev μ-loop : tie.MeasureT-loop
 μ-loop s m st₀ n₀ st n = m - n
@@ -21,10 +22,10 @@ array-write-a : tie.Need-array-write-a Inv-loop μ-loop
 array-write-a c = search needs
 
 loop-holds : tie.Need-loop-holds Inv-loop μ-loop
-loop-holds c = (running-start (c .args .s), refl, omega arith)
+loop-holds c = (running-start (c .args .s), refl, omega arith, inverse-start)
 
 step-requires : tie.Need-step-requires Inv-loop μ-loop
-step-requires c κs = (c .before .loop .inv .0, omega arith)
+step-requires c κs = (c .before .loop .inv .0, omega arith, c .before .loop .inv .3)
 
 add-n : tie.Need-add-n Inv-loop μ-loop
 add-n c = search needs
@@ -33,7 +34,7 @@ loop-less : tie.Need-loop-less Inv-loop μ-loop
 loop-less c = search needs
 
 loop-again : tie.Need-loop-again Inv-loop μ-loop
-loop-again c = (c .step .ensures .0, omega arith, omega arith)
+loop-again c = (c .step .ensures .0, omega arith, omega arith, c .step .ensures .2)
 
 returns : tie.Need-returns Inv-loop μ-loop
 returns c = (c .before .loop .inv .0, omega arith)

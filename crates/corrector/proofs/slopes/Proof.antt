@@ -18,16 +18,14 @@ use Rattle.corrector.proofs.slopes.Lts as lts
 use Rattle.corrector.proofs.times_plus.Reads as times-plus-reads
 
 abbrev Inv-loop : tie.InvT-loop
-Inv-loop xs a r₀ p₀ k₀ r p k = Row r × Row p × (k ≤ 32) × Sloped a xs r k × Valued a xs p k
+Inv-loop m xs a r₀ p₀ k₀ r p k = Row r × Row p × (k ≤ 32) × Sloped a xs r k × Valued a xs p k
 
 abbrev μ-loop : tie.MeasureT-loop
-μ-loop xs a r₀ p₀ k₀ r p k = k
+μ-loop m xs a r₀ p₀ k₀ r p k = k
 
 loop-holds : tie.Need-loop-holds Inv-loop μ-loop
 unfolding filled
-loop-holds c =
-    let ra : Row (c .args .t1) = record { long = search needs; bytes = λ h. let f : Fits w8 (getD (c .args .t1) h 0) = search needs in omega (arith, f) } in
-    (zeros-row, zeros-row, omega arith, sloped-start (c .args .t1) (c .args .xs) ra, valued-start (c .args .t1) (c .args .xs) ra)
+loop-holds c = (zeros-row, zeros-row, omega arith, sloped-start (c .args .t1) (c .args .xs) (c .args .m) (c .pre .1), valued-start (c .args .t1) (c .args .xs) (c .args .m) (c .pre .1))
 
 sub-k : tie.Need-sub-k Inv-loop μ-loop
 sub-k c = search needs

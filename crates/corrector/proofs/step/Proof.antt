@@ -18,7 +18,7 @@ use Rattle.field.proofs.inv.Reads as inv-reads
 use Rattle.field.proofs.mul.Reads as mul-reads
 
 seen :
-    (c : lts.After-window (window-reads.Asked, window-reads.Learnt, inv-reads.Asked, inv-reads.Learnt, mul-reads.Asked, mul-reads.Learnt, mixed-reads.Asked, mixed-reads.Learnt) reads.Pre reads.Post) →
+    (c : tie.After-window) →
     let start = c .before .before .before in
     let st = start .args .st in
     Seen (start .args .s) (st .a) (st .b) (st .i) (st .l) (st .e) (c .window .result)
@@ -40,14 +40,11 @@ seen c =
 window-requires : tie.Need-window-requires
 window-requires c κs = search needs
 
-add-t13 : tie.Need-add-t13
-add-t13 c = search needs
+add-t14 : tie.Need-add-t14
+add-t14 c = search needs
 
 returns : tie.Need-returns
-returns c = (running-keep (seen (c .before)) (c .if1 .taken), omega arith)
-
-inv-requires : tie.Need-inv-requires
-inv-requires c κs = search needs
+returns c = (running-keep (seen (c .before)) (c .if1 .taken), omega arith, c .before .before .before .before .pre .2)
 
 mul-requires : tie.Need-mul-requires
 mul-requires c κs = search needs
@@ -76,24 +73,28 @@ mixed-requires-2 c κs = search needs
 add-t18 : tie.Need-add-t18
 add-t18 c = search needs
 
+inv-requires : tie.Need-inv-requires
+inv-requires c κs = search needs
+
 returns-2 : tie.Need-returns-2
 returns-2 c =
     let q = c .before .before in
-    (running-mend (seen (q .before .before .before)) (q .mul .result) (c .mixed .result) (q .mul .ensures ∙ ap (mulN _) (q .before .inv .ensures)) (c .before .if2 .taken) (c .mixed .ensures), omega arith)
+    let w = q .before .before in
+    (running-mend (seen w) (q .mul .result) (c .mixed .result) (q .mul .ensures ∙ ap (mulN _) (w .before .before .before .pre .2)) (c .before .if2 .taken) (c .mixed .ensures), omega arith, w .before .before .before .pre .2)
 
 returns-3 : tie.Need-returns-3
 returns-3 c =
-    let q = c .before .before in
-    (running-grow (seen (q .before .before .before)) (q .mul .result) (c .mixed2 .result) (q .mul .ensures ∙ ap (mulN _) (q .before .inv .ensures)) (c .before .if2 .left) (q .before .before .if1 .left) (c .mixed2 .ensures), omega arith)
+    let q = c .before .before .before in
+    let w = q .before .before in
+    (running-grow (seen w) (q .mul .result) (c .before .mixed2 .result) (q .mul .ensures ∙ ap (mulN _) (w .before .before .before .pre .2)) (c .before .before .if2 .left) (q .before .if1 .left) (c .before .mixed2 .ensures), omega arith, c .inv .ensures)
 
 pub step-spec : {M : Type 1} → statement M
 step-spec =
     tie.close
     (tie.spec
     window-requires
-    add-t13
+    add-t14
     returns
-    inv-requires
     mul-requires
     sub-mixed
     sub-mixed-2
@@ -103,5 +104,6 @@ step-spec =
     sub-mixed-3
     mixed-requires-2
     add-t18
+    inv-requires
     returns-2
     returns-3)

@@ -18,14 +18,14 @@ use Rattle.corrector.proofs.values.Lts as lts
 use Rattle.corrector.proofs.times_plus.Reads as times-plus-reads
 
 abbrev Inv-loop : tie.InvT-loop
-Inv-loop xs a r₀ k₀ r k = Row r × (k ≤ 32) × Valued a xs r k
+Inv-loop m xs a r₀ k₀ r k = Row r × (k ≤ 32) × Valued a xs r k
 
 abbrev μ-loop : tie.MeasureT-loop
-μ-loop xs a r₀ k₀ r k = k
+μ-loop m xs a r₀ k₀ r k = k
 
 loop-holds : tie.Need-loop-holds Inv-loop μ-loop
 unfolding filled
-loop-holds c = (zeros-row, omega arith, valued-start (c .args .t1) (c .args .xs) record { long = search needs; bytes = λ h. let f : Fits w8 (getD (c .args .t1) h 0) = search needs in omega (arith, f) })
+loop-holds c = (zeros-row, omega arith, valued-start (c .args .t1) (c .args .xs) (c .args .m) (c .pre .1))
 
 sub-k : tie.Need-sub-k Inv-loop μ-loop
 sub-k c = search needs
