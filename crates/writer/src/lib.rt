@@ -2,12 +2,17 @@
 ghost use mathlib.Core.Path.{_≡_};
 ghost use Prim.Native.Nat.{ℕ, _+_, _*_, _<_, _≤_};
 ghost use lib.ListN.{length};
-ghost use Rattle.tables.specs.Tables.{lastVersion};
+ghost use Rattle.tables.specs.Tables.{lastVersion, mostCodewords, total, Lawful};
+ghost use Rattle.stream.specs.Stream.{LawfulMessage, dataCodewords};
+ghost use Rattle.blocks.specs.Blocks.{sent};
 ghost use Rattle.writer.specs.Writer.{request, inRange, taken};
 ghost use Rattle.writer.specs.Answer.{Checks};
 
 // The last version.
 const LAST_VERSION: usize = 10;
+
+// The most codewords that a version has.
+const MOST_CODEWORDS: usize = 346;
 
 // The smallest version that fits, or 0.
 fn smallest(level: usize, list: &[u16]) -> usize
@@ -110,4 +115,21 @@ fn check(
         refusal: 0,
         version: v,
     }
+}
+
+// The codewords of a message as they are sent; `held` is for its data codewords on the way.
+fn send_message(
+    payload: &[u8],
+    list: &[u16],
+    v: usize,
+    level: usize,
+    held: &mut [u8],
+    out: &mut [u8],
+)
+    requires { ⌜ Lawful v level × (LawfulMessage v level (now payload) (now list) × ((length (now held) ≡ mostCodewords) × (length (now out) ≡ total v))) ⌝ }
+    ensures { λ _. ⌜ now (out .exit) ≡ sent v level (dataCodewords v level (now (list .entry)) (now (payload .entry))) ⌝ }
+{
+    let count = tables::data(v, level);
+    stream::encode(payload, list, v, level, &mut held[..count]);
+    blocks::send(&held[..count], v, level, out);
 }
