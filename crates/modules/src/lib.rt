@@ -15,6 +15,9 @@ ghost use Rattle.modules.specs.Kinds.{kinds as kindsOf, rowFlips, stampe
 // The kind of a data module that is not filled.
 const DATA: u8 = 2;
 
+// The kind of a data module of the surplus: its bit is 0, and the mask flips it as any other.
+const SURPLUS: u8 = 2;
+
 // The kind of bit 0 of the format word.
 const FORMAT: usize = 4;
 
@@ -344,7 +347,7 @@ fn filled(codewords: &[u8], n: usize) -> u8
     if q < codewords.len() {
         return DATA + bit_of(wide(codewords[q]), 7 - n % 8);
     }
-    DATA
+    SURPLUS
 }
 
 // A module is met: a data module takes codeword bit n. Answers how many bits are used then.
