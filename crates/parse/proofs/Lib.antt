@@ -8,6 +8,7 @@ pub mod Front
 pub mod Groups
 pub mod Heads
 pub mod Lawful
+pub mod Limits
 pub mod Load
 pub mod Steps
 pub mod Written
