@@ -1,22 +1,20 @@
--- Laws of bits and bytes that the cursor stands on: one bit more of a number, one bit of a byte stored, bytes from bits and back.
+-- Laws of bits and bytes that the cursor stands on: bounds, a number of n bits, bytes from bits and back.
 -- Bits go most significant first, so that each law peels the front of a list. Assumes nothing.
 use mathlib.Core.Path.{_≡_, refl, sym, ap, ap₂, _∙_}
 use mathlib.Core.Bool.{Bool, true, false, _&&_}
 use mathlib.Core.List.{List, [], _∷_, _++_}
 use mathlib.Core.Logic.{_⊎_, inl, inr}
 use Prim.Native.Nat.{ℕ, zero, suc, _+_, _-_, _*_, _^_, _<_, _≤_, suc-le-suc}
-use native.Mathlib.Nat.{zero-add, suc-add, le-of-suc-le-suc, not-suc-le-zero, lt-of-lt-of-le}
-use native.Mathlib.Numerals.{add-one}
+use native.Mathlib.Nat.{le-of-suc-le-suc, not-suc-le-zero, lt-of-lt-of-le}
 use native.Mathlib.Omega.{arith}
 use lib.Dec.{T, ltb, eqb, eqb→eq}
 use borrow.Author.Tests.{ltb-true, ltb-false}
 use lib.Pow.{pow-mono}
-use lib.ListN.{length, getD, set, take, drop, length-append, length-take, length-drop, take-append-drop}
-use lib.Seq.{take-suc, getD-drop, length-take-le, set-append-left, getD-take}
-use Rattle.basics.specs.Bits.{bits, byteBits, number, numberAfter, bytes}
+use lib.ListN.{length, set, take, drop, length-take, length-drop, take-append-drop}
+use lib.Seq.{length-take-le}
+use Rattle.basics.specs.Bits.{bits, byteBits, number, bytes}
 use Rattle.basics.specs.Lists.{AtMost, same}
-use Rattle.basics.proofs.Bits.{length-bits, number-append, number-lt, bits-number}
-use Rattle.basics.proofs.Lists.{at-most-append}
+use Rattle.basics.proofs.Bits.{number-lt, bits-number}
 
 and-left : (a b : Bool) → T (a && b) → T a
 and-left true b t = tt
@@ -64,38 +62,9 @@ at-most-set m (x ∷ xs) (suc j) y h hy (suc i) l = at-most-set m xs j y (λ k l
 
 -- ---- numbers
 
--- one bit more
-pub number-more : (l : List ℕ) (at k : ℕ) → at + k < length l
-    → number (take (k + 1) (drop at l)) ≡ number (take k (drop at l)) * 2 + getD l (at + k) 0
-unfolding number numberAfter
-number-more l at k h =
-    rw (add-one, take-suc (drop at l) k 0 (rw length-drop (omega arith)), getD-drop)
-    (number-append (take k (drop at l)) (getD l (at + k) 0 ∷ []) ∙ ap (λ (b : ℕ). number (take k (drop at l)) * 2 + b) (zero-add (getD l (at + k) 0)))
-
 -- a number of n bits
 pub number-small : (n : ℕ) (l : List ℕ) → AtMost 1 l → number (take n l) < 2 ^ n
 number-small n l h = lt-of-lt-of-le (number-lt (take n l) (at-most-take 1 n l h)) (pow-mono {j = n} (rw length-take (omega arith)))
-
--- ---- one bit of a byte stored
-
-pub set-append-add : {A : Type 0} (xs ys : List A) (n : ℕ) (a : A) → set (xs ++ ys) (length xs + n) a ≡ xs ++ set ys n a
-set-append-add [] ys n a = rw zero-add
-set-append-add (x ∷ xs) ys n a = rw suc-add (ap (λ (l : List _). x ∷ l) (set-append-add xs ys n a))
-
-next : (q r k : ℕ) → k ≡ 8 → 8 * suc q + r ≡ k + (8 * q + r)
-next q r k e = omega arith
-
--- a byte that differs from the old one in bit r: of all bits, that one is changed
-pub set-byteBits : (s : List ℕ) (q r y b : ℕ) → q < length s → r < 8 → bits 8 y ≡ set (bits 8 (getD s q 0)) r b
-    → byteBits (set s q y) ≡ set (byteBits s) (8 * q + r) b
-unfolding byteBits
-set-byteBits [] q r y b h l e = absurd (not-suc-le-zero h)
-set-byteBits (a ∷ s) zero r y b h l e =
-    rw (zero-add, e) (sym (set-append-left (bits 8 a) (byteBits s) r b (rw length-bits l)))
-set-byteBits (a ∷ s) (suc q) r y b h l e =
-    ap (λ (l : List ℕ). bits 8 a ++ l) (set-byteBits s q r y b (le-of-suc-le-suc h) l e)
-    ∙ sym (set-append-add (bits 8 a) (byteBits s) (8 * q + r) b)
-    ∙ ap (λ (n : ℕ). set (bits 8 a ++ byteBits s) n b) (sym (next q r (length (bits 8 a)) (length-bits 8 a)))
 
 -- ---- bytes from bits, and back
 

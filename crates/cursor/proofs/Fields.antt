@@ -1,21 +1,19 @@
 -- Bytes with bits put in: what their bits are, how many they are, that they are bytes, and bits put after bits.
 -- Assumes nothing.
 use mathlib.Core.Path.{_≡_, refl, sym, ap, ap₂, _∙_}
-use mathlib.Core.List.{List, [], _∷_, _++_, append-assoc}
-use mathlib.Core.Logic.{⊎-elim}
-use Prim.Native.Nat.{ℕ, _+_, _-_, _*_, _/_, _%_, _^_, _<_, _≤_}
+use mathlib.Core.List.{List, [], _++_, append-assoc}
+use Prim.Native.Nat.{ℕ, _+_, _-_, _*_, _<_, _≤_}
 use native.Mathlib.Nat.{lt-of-lt-of-le, add-zero}
 use lib.Pow.{pow-mono}
-use native.Mathlib.Numerals.{add-one}
 use native.Mathlib.Omega.{arith}
-use lib.ListN.{length, getD, set, List·getD-eq-default, take, drop, length-append, length-drop, take-append-drop}
-use lib.Seq.{length-take-le, take-all, take-at, drop-at, drop-drop, paste, paste-suc}
-use Rattle.basics.specs.Bits.{bitOf, bits, byteBits, bytes, number, numberAfter}
+use lib.ListN.{length, take, drop, length-append, length-drop, take-append-drop}
+use lib.Seq.{length-take-le, take-all, take-at, drop-at, drop-drop, paste}
+use Rattle.basics.specs.Bits.{bits, byteBits, bytes, number, numberAfter}
 use Rattle.basics.specs.Lists.{AtMost}
-use Rattle.basics.proofs.Bits.{length-bits, length-byteBits, length-bytes, bits-le, byteBits-le, getD-bits, bytes-byteBits, byteBits-injective}
+use Rattle.basics.proofs.Bits.{length-bits, length-byteBits, length-bytes, bits-le, byteBits-le, bytes-byteBits, byteBits-injective}
 use Rattle.basics.proofs.Lists.{at-most-append}
 use Rattle.cursor.specs.Cursor.{field, withBits}
-use Rattle.cursor.proofs.Bits.{order, at-most-take, at-most-drop, byteBits-bytes, bytes-small, number-more, number-small, set-byteBits}
+use Rattle.cursor.proofs.Bits.{at-most-take, at-most-drop, byteBits-bytes, bytes-small, number-small}
 
 module _ (s : List ℕ) (at : ℕ) (bs : List ℕ) (h : AtMost 1 bs) where
   all-le : AtMost 1 (take at (byteBits s) ++ (bs ++ drop (at + length bs) (byteBits s)))
@@ -73,17 +71,9 @@ module _ (s : List ℕ) (at : ℕ) where
   unfolding field number numberAfter
   field-none = refl
 
-  pub field-more : (k : ℕ) → at + k < 8 * length s → field s at (k + 1) ≡ field s at k * 2 + getD (byteBits s) (at + k) 0
-  unfolding field
-  field-more k h = number-more (byteBits s) at k (rw length-byteBits h)
-
   pub field-16 : (k : ℕ) → k ≤ 16 → field s at k < 65536
   unfolding field
   field-16 k h = lt-of-lt-of-le (number-small k (drop at (byteBits s)) (at-most-drop 1 at (byteBits s) (byteBits-le s))) (pow-mono {j = 16} h)
-
--- a bit is at most 1, also past the end
-pub bit-le : (s : List ℕ) (p : ℕ) → getD (byteBits s) p 0 ≤ 1
-bit-le s p = ⊎-elim (λ h. byteBits-le s p h) (λ h. rw (List·getD-eq-default (byteBits s) 0 {n = p} h) (omega arith)) (order p (length (byteBits s)))
 
 -- so many bits written: the bits are those of the bytes with the field put in
 pub put-all : (s t : List ℕ) (at n x : ℕ) → at + n ≤ 8 * length s → length t ≡ length s → AtMost 255 t
@@ -92,16 +82,3 @@ put-all s t at n x h l small e =
     byteBits-injective t (withBits s at (bits n x)) small (with-bits-bytes s at (bits n x) (bits-le n x)) (l ∙ sym (with-bits-length s at (bits n x)))
     (e ∙ rw (take-all n (bits n x) (rw length-bits (omega arith)), append-assoc)
     (sym (with-bits-bits s at (bits n x) (bits-le n x) (rw length-bits h) ∙ rw length-bits)))
-
-pub put-more : (s t : List ℕ) (at n x k y b : ℕ) → k < n → at + n ≤ 8 * length s → length t ≡ length s
-    → byteBits t ≡ paste (byteBits s) at (bits n x) k
-    → b ≡ x / 2 ^ (n - 1 - k) % 2
-    → bits 8 y ≡ set (bits 8 (getD t ((at + k) / 8) 0)) ((at + k) % 8) b
-    → byteBits (set t ((at + k) / 8) y) ≡ paste (byteBits s) at (bits n x) (k + 1)
-put-more s t at n x k y b h m l e w stored =
-    set-byteBits t ((at + k) / 8) ((at + k) % 8) y b (omega arith) (omega arith) stored
-    ∙ rw (e, whole (at + k), w ∙ sym (getD-bits n x k h ∙ ap (bitOf x) (omega arith)), add-one)
-    (paste-suc (byteBits s) at (bits n x) k 0 (rw length-byteBits (omega arith)) (rw length-bits h))
-  where
-    whole : (p : ℕ) → 8 * (p / 8) + p % 8 ≡ p
-    whole p = omega arith

@@ -1,8 +1,9 @@
 // A bit cursor by value: its methods take `self` and return the moved cursor. Bits go most significant first.
 ghost use mathlib.Core.Path.{_≡_};
-ghost use Prim.Native.Nat.{_+_, _*_, _<_, _≤_};
-ghost use lib.ListN.{length, getD, set};
-ghost use Rattle.basics.specs.Bits.{bits, byteBits};
+ghost use mathlib.Core.List.{_++_};
+ghost use Prim.Native.Nat.{_+_, _-_, _*_, _/_, _%_, _^_, _<_, _≤_, min};
+ghost use lib.ListN.{length, take, drop};
+ghost use Rattle.basics.specs.Bits.{bits};
 ghost use Rattle.cursor.specs.Cursor.{field, withBits};
 
 pub struct Cursor {
@@ -14,44 +15,71 @@ pub struct Taken {
     pub next: Cursor,
 }
 
-// The bit at a place, counted from the first byte's highest bit.
-pub fn bit(bytes: &[u8], p: usize) -> u32
-    requires { ⌜ p < 8 * length (now bytes) ⌝ }
-    ensures { λ r. ⌜ r ≡ getD (byteBits (now (bytes .entry))) p 0 ⌝ }
-{
-    let x = bytes[p / 8];
-    let s = 7 - p % 8;
-    wide(x >> s) % 2
-}
-
 fn wide(x: u8) -> u32
     ensures { λ r. ⌜ r ≡ x ⌝ }
 {
     x as u32
 }
 
-// A byte with one of its bits set to b. Bit 0 is the highest.
-fn set_bit(x: u8, i: usize, b: u8) -> u8
-    requires { ⌜ (i < 8) × (b < 2) ⌝ }
-    ensures { λ r. ⌜ bits 8 r ≡ set (bits 8 x) i b ⌝ }
+// The lower of two numbers.
+fn least(a: usize, b: usize) -> usize
+    ensures { λ r. ⌜ r ≡ min a b ⌝ }
 {
-    let p: u8 = 1 << (7 - i);
-    let old = x / p % 2;
-    x - old * p + b * p
+    if a < b {
+        return a;
+    }
+    b
+}
+
+// 2 to the power of a number up to 16.
+fn power(k: usize) -> u32
+    requires { ⌜ k ≤ 16 ⌝ }
+    ensures { λ r. ⌜ r ≡ 2 ^ k ⌝ }
+{
+    1 << k
+}
+
+// The m bits of a byte above its lowest `low`, as a number.
+fn part_of(x: u8, low: usize, m: usize) -> u32
+    requires { ⌜ low + m ≤ 8 ⌝ }
+    ensures { λ r. ⌜ r ≡ x / 2 ^ low % 2 ^ m ⌝ }
+{
+    wide(x) / power(low) % power(m)
+}
+
+// A byte whose m bits above its lowest `low` are the lowest of a number.
+fn with_part(x: u8, low: usize, m: usize, value: u32) -> u8
+    requires { ⌜ low + m ≤ 8 ⌝ }
+    ensures { λ r. ⌜ bits 8 r ≡ take (8 - low - m) (bits 8 x) ++ (bits m value ++ drop (8 - low) (bits 8 x)) ⌝ }
+{
+    let u = power(low);
+    let w = power(m);
+    let whole = wide(x);
+    narrow((whole / u / w * w + value % w) * u + whole % u)
+}
+
+fn narrow(x: u32) -> u8
+    requires { ⌜ x < 256 ⌝ }
+    ensures { λ r. ⌜ r ≡ x ⌝ }
+{
+    x as u8
 }
 
 impl Cursor {
-    // The next n bits as a number, and the cursor past them.
+    // The next n bits as a number, and the cursor past them. A turn takes what is left of a byte, or of the field.
     pub fn take(self, bytes: &[u8], n: usize) -> Taken
         requires { ⌜ (n ≤ 16) × ((length (now bytes) ≤ 4096) × (self .at + n ≤ 8 * length (now bytes))) ⌝ }
         ensures { λ r. ⌜ (r .value ≡ field (now (bytes .entry)) (self .at) n) × (r .next .at ≡ self .at + n) ⌝ }
     {
         let at = self.at;
-        let mut v = 0;
-        let mut k = 0;
+        let mut v: u32 = 0;
+        let mut k: usize = 0;
         while k < n {
-            v = v * 2 + bit(bytes, at + k);
-            k += 1;
+            let p = at + k;
+            let room = 8 - p % 8;
+            let m = least(room, n - k);
+            v = v * power(m) + part_of(bytes[p / 8], room - m, m);
+            k += m;
         }
         Taken {
             value: v,
@@ -65,14 +93,14 @@ impl Cursor {
         ensures { λ r. ⌜ (r .at ≡ self .at + n) × (now (out .exit) ≡ withBits (now (out .entry)) (self .at) (bits n value)) ⌝ }
     {
         let at = self.at;
-        let mut k = 0;
+        let mut k: usize = 0;
         while k < n {
             let p = at + k;
-            let s = n - 1 - k;
-            let b = ((value >> s) % 2) as u8;
+            let room = 8 - p % 8;
+            let m = least(room, n - k);
             let i = p / 8;
-            out[i] = set_bit(out[i], p % 8, b);
-            k += 1;
+            out[i] = with_part(out[i], room - m, m, value >> (n - k - m));
+            k += m;
         }
         Cursor { at: at + n }
     }

@@ -1,11 +1,9 @@
 -- Cases a, b and c of the paper: the data codewords of each, computed.
 -- Assumes nothing.
 use mathlib.Core.Path.{_≡_}
-use mathlib.Core.Bool.{Bool, _&&_}
 use mathlib.Core.List.{List, [], _∷_}
 use Prim.Native.Nat.{ℕ}
-use lib.Dec.{T}
-use Rattle.basics.specs.Bits.{bits, byteBits, number, numberAfter, bytes}
+use Rattle.basics.specs.Bits.{bits, number, numberAfter, bytes}
 use Rattle.basics.specs.Lists.{same, placeIn}
 use Rattle.tables.specs.Tables.{countWidth, dataCount, total, totals, checkCount, checkRows, blockCount, blockRows}
 use Rattle.cursor.proofs.Bits.{same-lists}

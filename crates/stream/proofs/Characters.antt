@@ -3,13 +3,13 @@
 use mathlib.Core.Path.{_≡_, refl, sym, ap, _∙_}
 use mathlib.Core.Bool.{Bool, true, false, cond}
 use mathlib.Core.List.{List, [], _∷_}
-use Prim.Native.Nat.{ℕ, zero, suc, _+_, _-_, _<_, _≤_}
+use Prim.Native.Nat.{ℕ, suc, _+_, _-_, _<_, _≤_}
 use native.Mathlib.Omega.{arith}
 use lib.Dec.{T, eqb, eqb→eq}
 use lib.ListN.{length}
 use borrow.Author.Tests.{eqb-true}
 use Rattle.basics.specs.Lists.{placeIn}
-use Rattle.basics.proofs.Test.{all, at, either, same₁}
+use Rattle.basics.proofs.Test.{at, either, same₁}
 use Rattle.stream.specs.Stream.{alphabet, codeOf}
 
 place-le : (xs : List ℕ) (c : ℕ) → placeIn xs c ≤ length xs

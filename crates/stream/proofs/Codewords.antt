@@ -1,8 +1,8 @@
 -- The data codewords of a lawful message: as many as the version and level have, each a byte; and what the writer's buffer holds in the end.
 -- Assumes nothing.
-use mathlib.Core.Path.{_≡_, refl, sym, ap, ap₂, _∙_}
+use mathlib.Core.Path.{_≡_, ap, _∙_}
 use mathlib.Core.Bool.{true}
-use mathlib.Core.List.{List, [], _∷_, _++_}
+use mathlib.Core.List.{List, _++_}
 use Prim.Native.Nat.{ℕ, _+_, _-_, _*_, _/_, _≤_, min}
 use native.Mathlib.Nat.{zero-add}
 use native.Mathlib.Omega.{arith}
@@ -10,10 +10,9 @@ use lib.ListN.{length, take, replicate, length-replicate}
 use borrow.Author.Tests.{leb-true}
 use Rattle.basics.specs.Lists.{AtMost}
 use Rattle.tables.specs.Tables.{Lawful, dataCount}
-use Rattle.cursor.specs.Cursor.{withBits}
 use Rattle.cursor.proofs.Fields.{with-bits-length}
 use Rattle.stream.specs.Put.{Room, Put}
-use Rattle.stream.specs.Stream.{segments, segmentsWidth, fits, pads, padded, dataCodewords, LawfulMessage}
+use Rattle.stream.specs.Stream.{segments, segmentsWidth, fits, pads, dataCodewords, LawfulMessage}
 use Rattle.stream.proofs.Padding.{frontCount, padded-is, padded-length, padded-bytes}
 use Rattle.stream.proofs.Widths.{segments-length, segments-le}
 

@@ -3,16 +3,17 @@
 use mathlib.Core.Path.{_≡_, refl, sym, ap, ap₂, _∙_}
 use mathlib.Core.List.{List, [], _∷_, _++_, append-assoc}
 use Prim.Native.Nat.{ℕ, zero, suc, _+_, _-_, _*_, _/_, _%_, _<_, _≤_, min}
-use native.Mathlib.Nat.{zero-add, suc-add, sub-zero, zero-sub, suc-sub-suc, not-suc-le-zero, le-of-suc-le-suc}
+use native.Mathlib.Nat.{zero-add, sub-zero, zero-sub, suc-sub-suc, not-suc-le-zero, le-of-suc-le-suc}
 use native.Mathlib.Omega.{arith}
-use lib.ListN.{length, getD, take, drop, replicate, length-append, length-replicate, length-drop, replicate-append-replicate}
-use lib.Seq.{take-at, take-nil, take-take}
+use lib.ListN.{length, getD, take, drop, replicate, length-append, length-replicate, replicate-append-replicate}
+use lib.Seq.{take-at, take-take}
 use Rattle.basics.specs.Bits.{bits, byteBits, bytes, number}
 use Rattle.basics.specs.Lists.{AtMost}
 use Rattle.basics.proofs.Bits.{length-bytes}
 use Rattle.basics.proofs.Lists.{at-most-append, at-most-cons}
 use Rattle.cursor.specs.Cursor.{withBits}
 use Rattle.cursor.proofs.Bits.{bytes-small}
+use Rattle.cursor.proofs.Parts.{drop-take}
 use Rattle.stream.specs.Stream.{pads, wholeBytes, padded}
 
 -- ---- pads
@@ -74,11 +75,6 @@ unfolding bytes
 take-bytes zero n bs h = refl
 take-bytes (suc w) zero bs h = absurd (not-suc-le-zero h)
 take-bytes (suc w) (suc n) bs h = ap (λ (l : List ℕ). number (take 8 bs) ∷ l) (take-bytes w n (drop 8 bs) (le-of-suc-le-suc h))
-
-drop-take : (k n : ℕ) (l : List ℕ) → drop k (take (k + n) l) ≡ take n (drop k l)
-drop-take zero n l = rw zero-add
-drop-take (suc k) n [] = rw suc-add (sym (take-nil n))
-drop-take (suc k) n (x ∷ l) = rw suc-add (drop-take k n l)
 
 bytes-front : (w : ℕ) (bs : List ℕ) → bytes w bs ≡ bytes w (take (8 * w) bs)
 unfolding bytes

@@ -2,10 +2,10 @@
 -- Assumes nothing.
 use Prim.Native.Nat.{ℕ, _+_, _*_, _<_, _≤_}
 use native.Mathlib.Nat.{mul-le-mul}
-use lib.ListN.{getD}
-use Rattle.stream.proofs.Characters.{code-le}
 use native.Mathlib.Omega.{arith}
+use lib.ListN.{getD}
 use borrow.Author.Needs.{needs}
+use Rattle.stream.proofs.Characters.{code-le}
 use Rattle.stream.proofs.pair_of.Statement.{statement}
 use Rattle.stream.proofs.pair_of.Tie as tie
 

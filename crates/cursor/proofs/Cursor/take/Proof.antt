@@ -1,11 +1,12 @@
 -- `cursor::Cursor::take` meets its contract. The invariant: v is the field of the k bits passed.
 -- Assumes nothing.
 use mathlib.Core.Path.{_≡_, refl, sym, ap, _∙_}
-use Prim.Native.Nat.{_+_, _-_, _≤_}
+use Prim.Native.Nat.{_+_, _-_, _*_, _≤_}
 use native.Mathlib.Omega.{arith}
-use native.Mathlib.Nat.{le-antisymm}
+use borrow.Author.Needs.{needs}
 use Rattle.cursor.specs.Cursor.{field}
-use Rattle.cursor.proofs.Fields.{field-none, field-more, field-16, bit-le}
+use Rattle.cursor.proofs.Fields.{field-none, field-16}
+use Rattle.cursor.proofs.Parts.{field-part, field-shifted}
 use Rattle.cursor.proofs.Cursor.take.Statement.{statement}
 use Rattle.cursor.proofs.Cursor.take.Tie as tie
 
@@ -18,20 +19,52 @@ abbrev μ-loop : tie.MeasureT-loop
 loop-holds : tie.Need-loop-holds Inv-loop μ-loop
 loop-holds c = (omega arith, field-none _ _)
 
+add-p : tie.Need-add-p Inv-loop μ-loop
+add-p c = omega arith
+
+sub-room : tie.Need-sub-room Inv-loop μ-loop
+sub-room c = omega arith
+
+sub-least : tie.Need-sub-least Inv-loop μ-loop
+sub-least c = omega arith
+
+least-requires : tie.Need-least-requires Inv-loop μ-loop
+least-requires c κs = search needs
+
+power-requires : tie.Need-power-requires Inv-loop μ-loop
+power-requires c κs = omega arith
+
 mul-v : tie.Need-mul-v Inv-loop μ-loop
 mul-v c =
-    omega (arith, field-16 (c .before .before .before .args .bytes .now) (c .before .before .before .args .self .at) (c .before .loop .k) (omega arith))
+    let l = c .before .before .before .loop in
+    let a = c .before .before .before .before .before .args in
+    record { fits = rw (c .power .ensures, l .inv .1) (field-shifted (a .bytes .now) (a .self .at) (l .k) (c .before .least .result) (omega arith) (omega arith) (omega arith) (omega arith)) }
 
-add-bit : tie.Need-add-bit Inv-loop μ-loop
-add-bit c = omega arith
+shared-slice-read-part-of : tie.Need-shared-slice-read-part-of Inv-loop μ-loop
+shared-slice-read-part-of c = omega arith
 
-bit-requires : tie.Need-bit-requires Inv-loop μ-loop
-bit-requires c κs = omega arith
+sub-part-of : tie.Need-sub-part-of Inv-loop μ-loop
+sub-part-of c = omega arith
+
+part-of-requires : tie.Need-part-of-requires Inv-loop μ-loop
+part-of-requires c κs = omega (arith, c .before .before .least .ensures)
+
+-- the number with the turn's bits behind it is the field with those bits
+grown : (c : tie.After-part-of Inv-loop μ-loop)
+    → let l = c .before .before .before .before .before .loop in
+    let a = c .before .before .before .before .before .before .before .args in
+    l .v * c .before .before .power .result + c .part-of .result ≡ field (a .bytes .now) (a .self .at) (l .k + c .before .before .before .least .result)
+grown c =
+    let l = c .before .before .before .before .before .loop in
+    let a = c .before .before .before .before .before .before .before .args in
+    rw (c .before .before .power .ensures, c .part-of .ensures, l .inv .1)
+    (sym (field-part (a .bytes .now) (a .self .at) (l .k) (c .before .before .before .least .result) (omega arith) (omega arith) (omega arith)))
 
 add-v : tie.Need-add-v Inv-loop μ-loop
 add-v c =
-    let a = c .before .before .before .before .args in
-    omega (arith, field-16 (a .bytes .now) (a .self .at) (c .before .before .loop .k) (omega arith), bit-le (a .bytes .now) (a .self .at + c .before .before .loop .k))
+    let l = c .before .before .before .before .before .loop in
+    let a = c .before .before .before .before .before .before .before .args in
+    record { fits = rw (grown c) (omega (arith, field-16 (a .bytes .now) (a .self .at) (l .k + c .before .before .before .least .result) (omega arith))) }
 
 add-k : tie.Need-add-k Inv-loop μ-loop
 add-k c = omega arith
@@ -40,14 +73,16 @@ loop-less : tie.Need-loop-less Inv-loop μ-loop
 loop-less c = omega arith
 
 loop-again : tie.Need-loop-again Inv-loop μ-loop
-loop-again c = (omega arith, rw (c .before .before .loop .inv .1, c .bit .ensures) (sym (field-more _ _ _ (omega arith))))
+loop-again c = (omega arith, grown c)
 
-add-t11 : tie.Need-add-t11 Inv-loop μ-loop
-add-t11 c = omega arith
+add-t18 : tie.Need-add-t18 Inv-loop μ-loop
+add-t18 c = omega arith
 
 returns : tie.Need-returns Inv-loop μ-loop
 returns c =
-    (c .before .loop .inv .1 ∙ ap (field _ _) (le-antisymm (c .before .loop .inv .0) (c .loop-test .left)), refl)
+    let l = c .before .loop in
+    let e : l .k ≡ c .before .before .before .args .n = omega arith in
+    (l .inv .1 ∙ ap (field _ _) e, refl)
 
 pub take-spec : {M : Type 1} → statement M
 take-spec =
@@ -56,12 +91,18 @@ take-spec =
     Inv-loop
     μ-loop
     loop-holds
+    add-p
+    sub-room
+    sub-least
+    least-requires
+    power-requires
     mul-v
-    add-bit
-    bit-requires
+    shared-slice-read-part-of
+    sub-part-of
+    part-of-requires
     add-v
     add-k
     loop-less
     loop-again
-    add-t11
+    add-t18
     returns)
