@@ -1,4 +1,5 @@
 pub mod Centres
+pub mod Checks
 pub mod Drawn
 pub mod Filling
 pub mod Geometry
