@@ -1,6 +1,6 @@
 -- A copy of a word is read from its highest bit down, each bit put below the others; it has as many bits as places.
 -- Assumes nothing.
-use mathlib.Core.Path.{_≡_, refl, sym, ap, _∙_}
+use mathlib.Core.Path.{_≡_, refl, sym, ap, ap₂, _∙_}
 use mathlib.Core.List.{List, [], _∷_, map}
 use Prim.Native.Nat.{ℕ, zero, suc, _+_, _-_, _*_, _^_, _≤_, _<_}
 use native.Mathlib.Nat.{pow-suc, le-trans}
@@ -64,3 +64,10 @@ copy-more m places b p c r h l k e w =
       bits = w .0 ∙ ap (λ (x : ℕ). one (eqb (getD m p 0) 1) + 2 * x) (k .bits);
       can = w .1 ∙ ap (λ (x : ℕ). one (ltb (getD m p 0) 2) + 2 * x) (k .can);
     })
+
+-- no two different copies meet the promise of `format_copy` or of `version_copy`
+pub copy-only : (m places : List ℕ) (c d : Copy) → CopyRead m places c → CopyRead m places d → c ≡ d
+copy-only m places c d p q = ap₂ copy (p .bits ∙ sym (q .bits)) (p .can ∙ sym (q .can))
+  where
+    copy : ℕ → ℕ → Copy
+    copy bits readable = record { bits = bits; readable = readable }

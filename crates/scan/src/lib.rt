@@ -12,12 +12,18 @@ ghost use Rattle.modules.specs.Kinds.{rowFlips};
 ghost use Rattle.scan.specs.Received.{flag as flagOf, codeword, received, codewords as codewordsOf, flags as flagsOf};
 ghost use Rattle.scan.specs.Scan.{CopyRead, Meets, Ready, Walked, plain, EightRead};
 use tables::MOST_MODULES;
+use tables::MOST_SIDE;
 
 // The number of a module that could not be read.
 const UNREADABLE: u8 = 2;
 
 // The kind of a data module.
 const DATA: u8 = 2;
+
+// The bits of a format word and of a version word.
+const FORMAT_BITS: usize = 15;
+
+const VERSION_BITS: usize = 18;
 
 // A copy of a word, and which of its bits could be read.
 pub struct Copy {
@@ -128,13 +134,13 @@ fn walk(m: &[u8], kinds: &[u8], rows: &[u64], v: usize, out: &mut [u8]) -> usize
 }
 
 // Where a mask flips each row.
-fn flip_rows(mask: usize) -> [u64; 57]
+fn flip_rows(mask: usize) -> [u64; MOST_SIDE]
     requires { ⌜ mask < 8 ⌝ }
     ensures { λ r. ⌜ r ≡ map (rowFlips mask) (upTo mostSide) ⌝ }
 {
-    let mut rows = [0u64; 57];
+    let mut rows = [0u64; MOST_SIDE];
     let mut i: usize = 0;
-    while i < 57 {
+    while i < MOST_SIDE {
         rows[i] = modules::row_flips(mask, i);
         i += 1;
     }
@@ -227,7 +233,7 @@ pub fn format_copy(m: &[u8], v: usize, copy: usize) -> Copy
         bits: 0,
         readable: 0,
     };
-    let mut b: usize = 15;
+    let mut b: usize = FORMAT_BITS;
     while 0 < b {
         b -= 1;
         let p = modules::format_place(v, copy, b);
@@ -245,7 +251,7 @@ pub fn version_copy(m: &[u8], v: usize, copy: usize) -> Copy
         bits: 0,
         readable: 0,
     };
-    let mut b: usize = 18;
+    let mut b: usize = VERSION_BITS;
     while 0 < b {
         b -= 1;
         let p = modules::version_place(v, copy, b);

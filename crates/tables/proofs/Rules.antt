@@ -13,7 +13,9 @@ use lib.ListN.{getD, drop}
 use borrow.Author.Tests.{leb-true, leb-false}
 use Rattle.basics.specs.Sums.{one, sum}
 use Rattle.basics.proofs.Test.{all, grid, either, either-cases, isNot, is-not}
-use Rattle.tables.specs.Version.{Square}
+use Rattle.tables.specs.Version.{Square, Fixes}
+use Rattle.tables.specs.declared.Fixed.{Fixed}
+use Rattle.tables.specs.declared.Fixed.the-variants.{Version, NoVersion}
 use Rattle.tables.specs.Tables.{Lawful, side, totals, checkRows, blockRows, total, checkCount, blockCount, dataCount, shortLength, shortBlocks, blockData, blockStart, blockLength, room, lastVersion}
 
 -- ---- one test at all versions and levels
@@ -200,3 +202,10 @@ version-only n v w p q =
     ⊎-elim (eqb→eq v w) (λ t. absurd (is-not (side w * side w) (side v * side v) t (sym (p .long) ∙ q .long)))
     (either-cases (eqb v w) _
     (grid 11 11 (λ v w. either (eqb v w) (isNot (side w * side w) (side v * side v))) side-tested v w (omega (arith, p .most)) (omega (arith, q .most))))
+
+-- no two different answers meet the promise of `version_of`
+pub fixes-only : (n : ℕ) (a b : Fixed) → Fixes n a → Fixes n b → a ≡ b
+fixes-only n (Version v) (Version w) p q = ap Version (version-only n v w p q)
+fixes-only n (Version v) NoVersion p q = absurd (q v p)
+fixes-only n NoVersion (Version w) p q = absurd (p w q)
+fixes-only n NoVersion NoVersion p q = refl

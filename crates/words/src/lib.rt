@@ -20,6 +20,11 @@ const VERSION_CHECKS: u32 = 12;
 
 const VERSION_GENERATOR: u32 = 0x1F25;
 
+// The format words are those of 0 to 31, the version words those of 7 to 40.
+const FORMATS: u32 = 32;
+
+const FIRST_CODED: u32 = 7;
+
 const LAST_CODED: u32 = 40;
 
 // A copy stands for a word when twice the differing readable bits and the unreadable ones are at most this many.
@@ -116,7 +121,7 @@ pub fn find_format(copy: u32, readable: u32) -> Found
 {
     let missing = FORMAT_BITS - u32::count_ones(readable);
     let mut x: u32 = 0;
-    while x < 32 {
+    while x < FORMATS {
         if 2 * apart(copy, format_word(x), readable, FORMAT_BITS) + missing <= BOUND {
             return Found::Word(x);
         }
@@ -131,7 +136,7 @@ pub fn find_version(copy: u32, readable: u32) -> Found
     ensures { λ r. ⌜ VersionFound copy readable r ⌝ }
 {
     let missing = VERSION_BITS - u32::count_ones(readable);
-    let mut x: u32 = 7;
+    let mut x: u32 = FIRST_CODED;
     while x <= LAST_CODED {
         if 2 * apart(copy, version_word(x), readable, VERSION_BITS) + missing <= BOUND {
             return Found::Word(x);
