@@ -1,0 +1,2 @@
+pub mod Paste
+pub mod Text
