@@ -1,16 +1,15 @@
 -- The patterns of a version drawn one after the other are its modules' kinds: one test a version, computed.
 -- Assumes nothing.
-use mathlib.Core.Path.{_≡_, refl, sym, ap, ap₂, subst, _∙_}
+use mathlib.Core.Path.{_≡_, refl, ap, ap₂, subst}
 use mathlib.Core.Bool.{Bool, true, false, _&&_}
 use mathlib.Core.List.{List, [], _∷_}
-use Prim.Native.Nat.{ℕ, zero, suc, _+_, _-_, _*_, _≤_, _<_}
+use Prim.Native.Nat.{ℕ, _+_, _-_, _*_, _≤_, _<_}
 use native.Mathlib.Omega.{arith}
 use lib.Dec.{T, eqb, eqb→eq}
-use lib.ListN.{length, set, replicate}
-use Rattle.basics.specs.Bits.{bitOf}
+use lib.ListN.{replicate}
 use Rattle.basics.specs.Lists.{same}
 use Rattle.basics.proofs.Test.{all, at}
-use Rattle.tables.specs.Tables.{side, centres}
+use Rattle.tables.specs.Tables.{side}
 use Rattle.words.specs.Words.{versionWord}
 use Rattle.modules.specs.Kinds.{kinds, stamped, squarePlace, timingPlace, timingValue, formatPlace, formatValue, versionPlace, versionValue, atFinder, alignedOne, aligned, findersOn, frameOn}
 use Rattle.modules.proofs.Open.{every}

@@ -1,6 +1,6 @@
 -- The walk that fills: `putAll` in two stretches, its length and count, and what it leaves over a version's kinds: `filled-all`.
 -- Assumes nothing.
-use mathlib.Core.Path.{_≡_, refl, sym, ap, ap₂, subst, _∙_}
+use mathlib.Core.Path.{_≡_, refl, sym, ap, _∙_}
 use mathlib.Core.Logic.{_⊎_, inl, inr, ⊎-elim}
 use mathlib.Core.Bool.{Bool, true, false, cond}
 use mathlib.Core.List.{List, [], _∷_, map}
@@ -8,7 +8,7 @@ use Prim.Native.Nat.{ℕ, zero, suc, _+_, _-_, _*_, _/_, _%_, _≤_, _<_}
 use native.Mathlib.Nat.{sub-zero, zero-mul, add-zero, add-suc, suc-mul, mul-add-div-right, mul-add-mod-self-right, div-eq-of-lt, mod-eq-of-lt, mul-le-mul, le-refl, lt-irrefl}
 use native.Mathlib.Numerals.{add-one}
 use native.Mathlib.Omega.{arith}
-use lib.Dec.{T, leb, eqb, eqb→eq}
+use lib.Dec.{T, eqb, eqb→eq}
 use lib.ListN.{length, getD, set, length-set, List·getD-eq-default}
 use lib.Seq.{ext-getD, getD-set-same, getD-set-other}
 use borrow.Author.Tests.{eq-eqb, ne-eqb, eqb-true, eqb-false}
@@ -19,7 +19,7 @@ use Rattle.basics.proofs.Lists.{length-map-upTo, getD-map-upTo}
 use Rattle.basics.proofs.Test.{all}
 use Rattle.tables.specs.Tables.{side}
 use Rattle.words.specs.Words.{versionWord}
-use Rattle.modules.specs.Modules.{Module, Finder, Timing, Alignment, Dark, Format, Version, Data, remains, moduleOf, isData, pairColumn, walk, step, met, fill}
+use Rattle.modules.specs.Modules.{Module, Finder, Timing, Alignment, Dark, Format, Version, Data, remains, isData, pairColumn, walk, step, met, fill}
 use Rattle.modules.specs.Geometry.{moduleOn}
 use Rattle.modules.specs.Kinds.{kind, kinds, laid, Filling, filling, putIf, put, putAll, pairPlace}
 use Rattle.modules.proofs.Kept.{not-both, oneMore, rank, rank-suc, fill-at}

@@ -10,13 +10,13 @@ use native.Mathlib.Nat.{div-lt-iff-lt-mul, div-add-mod', mod-lt}
 use native.Mathlib.Omega.{arith}
 use lib.Bits.{bitXor}
 use lib.Dec.{T, T-not, eqb, leb, ltb, eqb→eq, ltb→lt}
-use lib.ListN.{length, getD, List·getD-eq-default}
+use lib.ListN.{length, getD}
 use Rattle.basics.specs.Bits.{bitOf, byteBits}
 use Rattle.basics.specs.Lists.{upTo, placeIn, AtMost}
 use Rattle.basics.specs.Sums.{one}
 use Rattle.basics.proofs.Bits.{byteBits-le, bit-le}
 use Rattle.basics.proofs.Sums.{one-le}
-use Rattle.basics.proofs.Lists.{length-map-upTo, getD-map-upTo, length-map, getD-map, length-upTo, getD-upTo}
+use Rattle.basics.proofs.Lists.{length-map-upTo, getD-map-upTo, length-map, getD-map}
 use Rattle.basics.proofs.Test.{all, at, grid, cube, both, either, either-cases}
 use Rattle.tables.specs.Tables.{side, total, surplus}
 use Rattle.words.specs.Words.{formatWord, formatBits, versionWord}

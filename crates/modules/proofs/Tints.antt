@@ -2,14 +2,12 @@
 -- what is finished over a laid matrix is the symbol.
 -- Assumes nothing.
 use mathlib.Core.Path.{_≡_, refl, sym, ap, ap₂, _∙_}
-use mathlib.Core.Logic.{_⊎_, inl, inr, ⊎-elim}
-use mathlib.Core.Bool.{Bool, true, false, cond}
+use mathlib.Core.Bool.{cond}
 use mathlib.Core.List.{List, [], _∷_, _++_, map, append-assoc}
 use Prim.Native.Nat.{ℕ, zero, suc, _+_, _-_, _*_, _/_, _%_, _^_, _≤_, _<_}
-use native.Mathlib.Nat.{add-zero, add-suc, suc-mul, mul-comm, zero-div, zero-mod, pow-suc, div-div-eq-div-mul, mul-add-div-right, mul-add-mod-self-right, div-eq-of-lt, mod-eq-of-lt, add-sub-cancel-left}
+use native.Mathlib.Nat.{add-zero, add-suc, suc-mul, mul-comm, zero-div, zero-mod, pow-suc, div-div-eq-div-mul, mul-add-div-right, mul-add-mod-self-right, div-eq-of-lt, mod-eq-of-lt}
 use native.Mathlib.Numerals.{add-one}
 use native.Mathlib.Omega.{arith}
-use lib.Bits.{bitXor}
 use lib.Dec.{T, leb, eqb, eqb→eq}
 use lib.ListN.{length, getD, take, drop, length-append, length-drop}
 use lib.Seq.{take-at, getD-take, getD-drop, drop-drop}
@@ -22,11 +20,11 @@ use Rattle.basics.proofs.Bits.{byteBits-le, bit-le}
 use Rattle.basics.proofs.Build.{build-length}
 use Rattle.basics.proofs.Lists.{length-map-upTo, getD-map-upTo, map-upTo-same, build-upTo}
 use Rattle.basics.proofs.Parts.{lent-front, length-part, the-part}
-use Rattle.basics.proofs.Test.{all, at, grid, cube}
+use Rattle.basics.proofs.Test.{all, at, cube}
 use Rattle.tables.specs.Tables.{side}
 use Rattle.words.specs.Words.{formatWord, formatBits, versionWord}
 use Rattle.words.proofs.Bits.{format-bits-lt}
-use Rattle.modules.specs.Modules.{Module, Finder, Timing, Alignment, Dark, Format, Version, Data, flips, colour, moduleOf, met, fill, step, moduleAt, symbol}
+use Rattle.modules.specs.Modules.{Module, Finder, Timing, Alignment, Dark, Format, Version, Data, flips, colour, met, fill, step, moduleAt, symbol}
 use Rattle.modules.specs.Geometry.{moduleOn}
 use Rattle.modules.specs.Kinds.{kind, laid, tint, finished, rowFlips, tinted}
 use Rattle.modules.proofs.Open.{every}

@@ -1,65 +1,51 @@
-use mathlib.Core.Path.{_≡_, sym, _∙_}
+-- `modules::alignment` meets its contract: one pair of centres, skipped at a finder, else a square.
+-- Assumes nothing.
+use mathlib.Core.Path.{sym, _∙_}
 use Prim.Native.Nat.{_*_, _≤_}
 use native.Mathlib.Omega.{arith}
 use lib.ListN.{length}
 use Rattle.tables.specs.Tables.{side}
-use Rattle.modules.proofs.Centres.{Pair, pair, Room, room, aligned-skip, aligned-square}
+use Rattle.modules.proofs.Centres.{pair, Room, room, aligned-skip, aligned-square}
 use borrow.Author.Needs.{needs}
 use Rattle.modules.proofs.alignment.Statement.{statement}
 use Rattle.modules.proofs.alignment.Tie as tie
-use Rattle.modules.proofs.alignment.Reads as reads
-use Rattle.modules.proofs.alignment.Lts as lts
-use Rattle.modules.proofs.at_finder.Reads as at-finder-reads
-use Rattle.modules.proofs.square.Reads as square-reads
-use Rattle.tables.proofs.centre.Reads as centre-reads
-use Rattle.tables.proofs.centre_count.Reads as centre-count-reads
-use Rattle.tables.proofs.side.Reads as side-reads
 
--- src/lib.rt:209:9
 centre-count-requires : tie.Need-centre-count-requires
 centre-count-requires c κs = search needs
 
--- src/lib.rt:210:13
 div-a : tie.Need-div-a
 div-a c =
     let a = c .before .before .args in pair (a .v) _ (a .t) (omega arith) (omega arith) (c .centre-count .ensures) (c .before .before .pre .1 .1 .0) .positive
 
--- src/lib.rt:211:13
 rem-b : tie.Need-rem-b
 rem-b c =
     let a = c .before .before .args in pair (a .v) _ (a .t) (omega arith) (omega arith) (c .centre-count .ensures) (c .before .before .pre .1 .1 .0) .positive
 
--- src/lib.rt:212:8
 at-finder-requires : tie.Need-at-finder-requires
 at-finder-requires c κs =
     let a = c .before .before .args in
     let p = pair (a .v) _ (a .t) (omega arith) (omega arith) (c .centre-count .ensures) (c .before .before .pre .1 .1 .0) in (omega arith, omega arith)
 
--- src/lib.rt:213:9
 returns : tie.Need-returns
 returns c =
     let s = c .before .before .before .before in
     aligned-skip (s .args .v) (s .args .t) _ _ (c .before .before .centre-count .ensures) (sym (c .before .at-finder .ensures) ∙ c .if1 .taken)
 
--- src/lib.rt:215:9
 centre-requires : tie.Need-centre-requires
 centre-requires c κs =
     let s = c .before .before .before .before in
     let p = pair (s .args .v) _ (s .args .t) (omega arith) (omega arith) (c .before .before .centre-count .ensures) (s .pre .1 .1 .0) in
     (omega arith, (omega arith, omega arith))
 
--- src/lib.rt:216:9
 centre-requires-2 : tie.Need-centre-requires-2
 centre-requires-2 c κs =
     let s = c .before .before .before .before .before in
     let p = pair (s .args .v) _ (s .args .t) (omega arith) (omega arith) (c .before .before .before .centre-count .ensures) (s .pre .1 .1 .0) in
     (omega arith, (omega arith, omega arith))
 
--- src/lib.rt:217:9
 side-requires : tie.Need-side-requires
 side-requires c κs = search needs
 
--- src/lib.rt:218:20
 roomy : (c : tie.After-square-arg) → Room (c .before .before .before .centre .result) (c .before .before .centre2 .result) (c .before .side .result)
 roomy c =
     let s = c .before .before .before .before .before .before .before .before in
@@ -69,11 +55,9 @@ roomy c =
 sub-square : tie.Need-sub-square
 sub-square c = roomy c .up
 
--- src/lib.rt:218:27
 sub-square-2 : tie.Need-sub-square-2
 sub-square-2 c = roomy c .left
 
--- src/lib.rt:218:5
 square-requires : tie.Need-square-requires
 square-requires c κs =
     let r = roomy c in
@@ -81,11 +65,9 @@ square-requires c κs =
     c .before .before .before .before .before .before .before .before .pre .1 .1 .1 in
     (omega arith, (omega arith, (r .small, (r .down, (r .right, rw (c .before .side .ensures) h)))))
 
--- src/lib.rt:205:1
 same-length : tie.Need-same-length
 same-length c = search needs
 
--- src/lib.rt:205:1
 returns-2 : tie.Need-returns-2
 returns-2 c =
     let s = c .before .before .before .before .before .before .before .before .before .before .before in

@@ -1,5 +1,7 @@
-use mathlib.Core.Path.{_≡_, refl, sym, ap, _∙_}
-use Prim.Native.Nat.{ℕ, _-_, _*_, _≤_}
+-- `modules::alignments` meets its contract: the invariant: the patterns of the first t pairs are drawn.
+-- Assumes nothing.
+use mathlib.Core.Path.{_≡_, sym}
+use Prim.Native.Nat.{_-_, _≤_}
 use native.Mathlib.Nat.{le-antisymm}
 use native.Mathlib.Omega.{arith}
 use lib.ListN.{length}
@@ -8,10 +10,6 @@ use Rattle.modules.specs.Kinds.{aligned}
 use Rattle.modules.proofs.Centres.{centres-few, squared, aligned-none, aligned-more, drawn-length}
 use Rattle.modules.proofs.alignments.Statement.{statement}
 use Rattle.modules.proofs.alignments.Tie as tie
-use Rattle.modules.proofs.alignments.Reads as reads
-use Rattle.modules.proofs.alignments.Lts as lts
-use Rattle.modules.proofs.alignment.Reads as alignment-reads
-use Rattle.tables.proofs.centre_count.Reads as centre-count-reads
 
 abbrev Inv-loop : tie.InvT-loop
 Inv-loop out₀ v n end t₀ out t = (t ≤ end) × ((n ≡ length (centres v)) × (out ≡ aligned v t out₀))
@@ -19,49 +17,40 @@ Inv-loop out₀ v n end t₀ out t = (t ≤ end) × ((n ≡ length (centres v)) 
 abbrev μ-loop : tie.MeasureT-loop
 μ-loop out₀ v n end t₀ out t = end - t
 
--- src/lib.rt:226:9
 centre-count-requires : tie.Need-centre-count-requires Inv-loop μ-loop
 centre-count-requires c κs = (omega arith, omega arith)
 
--- src/lib.rt:227:15
 mul-end : tie.Need-mul-end Inv-loop μ-loop
 mul-end c =
     let v = c .before .before .args .v in
     omega (arith, squared (c .centre-count .result) (omega (arith, c .centre-count .ensures, centres-few v (omega arith) (omega arith))))
 
--- src/lib.rt:229:5
 loop-holds : tie.Need-loop-holds Inv-loop μ-loop
 loop-holds c = (omega arith, (c .centre-count .ensures, aligned-none _ _))
 
--- src/lib.rt:230:9
 alignment-requires : tie.Need-alignment-requires Inv-loop μ-loop
 alignment-requires c κs =
     let s = c .before .before .before .before .before in
     let l = c .before .before .loop in
     (omega arith, (omega arith, (rw (l .inv .1 .0) at (c .before .loop-test .taken), rw (drawn-length _ _ _ _ (l .inv .1 .1)) (s .pre .1 .1))))
 
--- src/lib.rt:231:9
 add-t : tie.Need-add-t Inv-loop μ-loop
 add-t c =
     let n = c .before .before .before .before .before .before .centre-count .result in
     let v = c .before .before .before .before .before .before .before .before .args .v in
     omega (arith, squared n (omega (arith, c .before .before .before .before .before .loop .inv .1 .0, centres-few v (omega arith) (omega arith))))
 
--- src/lib.rt:229:5
 loop-less : tie.Need-loop-less Inv-loop μ-loop
 loop-less c = omega arith
 
--- src/lib.rt:229:5
 loop-again : tie.Need-loop-again Inv-loop μ-loop
 loop-again c =
     let l = c .before .before .before .before .before .loop in
     (omega arith, (l .inv .1 .0, aligned-more _ (l .t) _ (l .out) _ (l .inv .1 .1) (c .before .before .alignment .ensures)))
 
--- src/lib.rt:222:1
 same-length : tie.Need-same-length Inv-loop μ-loop
 same-length c = drawn-length _ _ _ _ (c .before .loop .inv .1 .1)
 
--- src/lib.rt:222:1
 returns : tie.Need-returns Inv-loop μ-loop
 returns c =
     let l = c .before .loop in

@@ -1,15 +1,14 @@
+-- `modules::clear` meets its contract: the invariant: the first p modules are data modules that are not filled.
+-- Assumes nothing.
 use mathlib.Core.Path.{_≡_, refl, sym, ap, _∙_}
 use native.Mathlib.Numerals.{add-one}
 use borrow.Author.Needs.{needs}
 use Prim.Native.Nat.{ℕ, _-_, _≤_, _<_}
-use native.Mathlib.Nat.{le-antisymm}
 use native.Mathlib.Omega.{arith}
 use lib.ListN.{length, take, replicate, length-set, replicate-append-replicate}
 use lib.Seq.{take-suc-set, take-all}
 use Rattle.modules.proofs.clear.Statement.{statement}
 use Rattle.modules.proofs.clear.Tie as tie
-use Rattle.modules.proofs.clear.Reads as reads
-use Rattle.modules.proofs.clear.Lts as lts
 
 abbrev Inv-loop : tie.InvT-loop
 Inv-loop out₀ p₀ out p = (p ≤ length out) × ((length out ≡ length out₀) × (take p out ≡ replicate p 2))
@@ -17,34 +16,27 @@ Inv-loop out₀ p₀ out p = (p ≤ length out) × ((length out ≡ length out�
 abbrev μ-loop : tie.MeasureT-loop
 μ-loop out₀ p₀ out p = length out₀ - p
 
--- src/lib.rt:118:5
 loop-holds : tie.Need-loop-holds Inv-loop μ-loop
 loop-holds c = (omega arith, (refl, refl))
 
--- src/lib.rt:119:9
 slice-write-out : tie.Need-slice-write-out Inv-loop μ-loop
 slice-write-out c = search needs
 
--- src/lib.rt:120:9
 add-p : tie.Need-add-p Inv-loop μ-loop
 add-p c = search needs
 
--- src/lib.rt:118:5
 loop-less : tie.Need-loop-less Inv-loop μ-loop
 loop-less c = search needs
 
--- src/lib.rt:118:5
 loop-again : tie.Need-loop-again Inv-loop μ-loop
 loop-again c =
     let l = c .before .loop in
     let few : l .p < length (l .out) = omega arith in
     (simp length-set (omega arith), (simp length-set (l .inv .1 .0), rw (add-one, take-suc-set (l .out) (l .p) 2, l .inv .1 .1) (replicate-append-replicate (l .p) 1 2 ∙ ap (λ (n : ℕ). replicate n 2) (add-one (l .p)))))
 
--- src/lib.rt:114:1
 same-length : tie.Need-same-length Inv-loop μ-loop
 same-length c = search needs
 
--- src/lib.rt:114:1
 returns : tie.Need-returns Inv-loop μ-loop
 returns c =
     let l = c .before .loop in

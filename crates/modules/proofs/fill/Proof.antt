@@ -1,17 +1,15 @@
-use mathlib.Core.Path.{_≡_, refl, sym, ap, _∙_}
-use Prim.Native.Nat.{ℕ, suc, _+_, _-_, _*_, _≤_}
+-- `modules::fill` meets its contract: the invariant: the first q column pairs have taken their bits, over the version's kinds.
+-- Assumes nothing.
+use mathlib.Core.Path.{_≡_, sym, _∙_}
+use Prim.Native.Nat.{_-_, _*_, _≤_}
 use native.Mathlib.Omega.{arith}
 use Rattle.basics.specs.Bits.{byteBits}
 use Rattle.tables.specs.Tables.{side}
 use Rattle.modules.specs.Modules.{walk}
-use Rattle.modules.specs.Kinds.{Filling, filling, kinds, putAll, pairPlace}
+use Rattle.modules.specs.Kinds.{filling, kinds, putAll}
 use Rattle.modules.proofs.Filling.{kept-length, few-used, kinds-length, few-steps, none-yet, pair-more, laid-all}
 use Rattle.modules.proofs.fill.Statement.{statement}
 use Rattle.modules.proofs.fill.Tie as tie
-use Rattle.modules.proofs.fill.Reads as reads
-use Rattle.modules.proofs.fill.Lts as lts
-use Rattle.modules.proofs.pair.Reads as pair-reads
-use Rattle.modules.proofs.patterns.Reads as patterns-reads
 
 abbrev Inv-loop : tie.InvT-loop
 Inv-loop codewords base₀ v end used₀ q₀ base used q = (q ≤ end) × (filling base used ≡ putAll (byteBits codewords) (walk (side v)) (q * (2 * side v)) (filling (kinds v) 0))
@@ -19,23 +17,18 @@ Inv-loop codewords base₀ v end used₀ q₀ base used q = (q ≤ end) × (fill
 abbrev μ-loop : tie.MeasureT-loop
 μ-loop codewords base₀ v end used₀ q₀ base used q = end - q
 
--- src/lib.rt:402:5
 patterns-requires : tie.Need-patterns-requires Inv-loop μ-loop
 patterns-requires c κs = (omega arith, (omega arith, c .before .before .before .pre .1 .1))
 
--- src/lib.rt:403:15
 mul-end : tie.Need-mul-end Inv-loop μ-loop
 mul-end c = omega arith
 
--- src/lib.rt:403:15
 add-end : tie.Need-add-end Inv-loop μ-loop
 add-end c = omega arith
 
--- src/lib.rt:406:5
 loop-holds : tie.Need-loop-holds Inv-loop μ-loop
 loop-holds c = (omega arith, none-yet _ (omega arith) (omega arith) _ _ (c .before .before .patterns .ensures))
 
--- src/lib.rt:407:9
 pair-requires : tie.Need-pair-requires Inv-loop μ-loop
 pair-requires c κs =
     let s = c .before .before .before .before .before .before .before .before .before in
@@ -53,28 +46,23 @@ pair-requires c κs =
       ),
     )
 
--- src/lib.rt:408:9
 add-q : tie.Need-add-q Inv-loop μ-loop
 add-q c = omega arith
 
--- src/lib.rt:406:5
 loop-less : tie.Need-loop-less Inv-loop μ-loop
 loop-less c = omega arith
 
--- src/lib.rt:406:5
 loop-again : tie.Need-loop-again Inv-loop μ-loop
 loop-again c =
     let s = c .before .before .before .before .before .before .before .before .before .before .before .before in
     let l = c .before .before .before .before .before .loop in
     (omega arith, pair-more (s .args .v) (omega arith) (omega arith) (s .args .codewords .now) (l .q) _ _ _ _ (l .inv .1) (c .before .before .pair .ensures))
 
--- src/lib.rt:398:1
 same-length : tie.Need-same-length Inv-loop μ-loop
 same-length c =
     let s = c .before .before .before .before .before .before .before .before in
     kept-length _ _ _ _ _ _ _ (c .before .loop .inv .1) ∙ kinds-length (s .args .v) (omega arith) (omega arith) (byteBits (s .args .codewords .now)) ∙ sym (s .pre .1 .1)
 
--- src/lib.rt:398:1
 returns : tie.Need-returns Inv-loop μ-loop
 returns c =
     let s = c .before .before .before .before .before .before .before .before in

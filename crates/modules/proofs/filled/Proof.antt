@@ -1,42 +1,33 @@
+-- `modules::filled` meets its contract: the bit of a codeword, and 0 past the last.
+-- Assumes nothing.
 use Prim.Native.Nat.{ℕ, _+_}
-use mathlib.Core.Path.{sym, ap, _∙_}
+use mathlib.Core.Path.{sym, ap}
 use native.Mathlib.Omega.{arith}
 use Rattle.modules.proofs.Filling.{bit-inside, bit-past}
 use borrow.Author.Needs.{needs}
 use Rattle.modules.proofs.filled.Statement.{statement}
 use Rattle.modules.proofs.filled.Tie as tie
-use Rattle.modules.proofs.filled.Reads as reads
-use Rattle.modules.proofs.filled.Lts as lts
-use Rattle.modules.proofs.bit_of.Reads as bit-of-reads
-use Rattle.modules.proofs.wide.Reads as wide-reads
 
--- src/lib.rt:339:35
 shared-slice-read-wide : tie.Need-shared-slice-read-wide
 shared-slice-read-wide c = search needs
 
--- src/lib.rt:339:30
 wide-requires : tie.Need-wide-requires
 wide-requires c κs = search needs
 
--- src/lib.rt:339:50
 sub-bit-of : tie.Need-sub-bit-of
 sub-bit-of c = search needs
 
--- src/lib.rt:339:23
 bit-of-requires : tie.Need-bit-of-requires
 bit-of-requires c κs = search needs
 
--- src/lib.rt:339:16
 add-result : tie.Need-add-result
 add-result c = search needs
 
--- src/lib.rt:339:9
 returns : tie.Need-returns
 returns c =
     let a = c .before .before .before .before .before .args in
     ap (λ (b : ℕ). 2 + b) (bit-inside (a .codewords .now) (a .n) _ _ (omega arith) (c .before .wide .ensures) (c .bit-of .ensures))
 
--- src/lib.rt:334:1
 returns-2 : tie.Need-returns-2
 returns-2 c =
     let a = c .before .before .args in

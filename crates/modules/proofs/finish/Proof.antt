@@ -1,6 +1,8 @@
-use mathlib.Core.Path.{_≡_, refl, sym, ap, _∙_}
+-- `modules::finish` meets its contract: the invariant: the first i rows are finished, and the rest is as it was.
+-- Assumes nothing.
+use mathlib.Core.Path.{_≡_, sym, ap, _∙_}
 use mathlib.Core.List.{List, _++_}
-use Prim.Native.Nat.{ℕ, suc, _+_, _-_, _*_, _≤_}
+use Prim.Native.Nat.{ℕ, _+_, _-_, _*_, _≤_}
 use native.Mathlib.Nat.{le-antisymm, le-trans, zero-mul, mul-le-mul-right}
 use native.Mathlib.Omega.{arith}
 use lib.ListN.{length, drop}
@@ -14,13 +16,6 @@ use Rattle.modules.proofs.Stamps.{square-small, row-end}
 use Rattle.modules.proofs.Tints.{finishAt, row-more, row-at, finished-build, front-length, part-le}
 use Rattle.modules.proofs.finish.Statement.{statement}
 use Rattle.modules.proofs.finish.Tie as tie
-use Rattle.modules.proofs.finish.Reads as reads
-use Rattle.modules.proofs.finish.Lts as lts
-use Rattle.modules.proofs.row_flips.Reads as row-flips-reads
-use Rattle.modules.proofs.tint_row.Reads as tint-row-reads
-use Rattle.tables.proofs.side.Reads as side-reads
-use Rattle.words.proofs.format_bits.Reads as format-bits-reads
-use Rattle.words.proofs.format_word.Reads as format-word-reads
 
 abbrev Inv-loop : tie.InvT-loop
 Inv-loop base v level mask out₀ s word i₀ out i = (i ≤ s) × (out ≡ build (finishAt v level mask base) (i * s) ++ drop (i * s) out₀)
@@ -28,7 +23,6 @@ Inv-loop base v level mask out₀ s word i₀ out i = (i ≤ s) × (out ≡ buil
 abbrev μ-loop : tie.MeasureT-loop
 μ-loop base v level mask out₀ s word i₀ out i = s - i
 
--- src/lib.rt:322:9
 -- row i is in both matrices
 record Ends (i n base out : ℕ) : Type 0 where
   small : n ≤ 57
@@ -55,72 +49,55 @@ ends c =
 side-requires : tie.Need-side-requires Inv-loop μ-loop
 side-requires c κs = omega arith
 
--- src/lib.rt:323:35
 format-bits-requires : tie.Need-format-bits-requires Inv-loop μ-loop
 format-bits-requires c κs = (omega arith, omega arith)
 
--- src/lib.rt:323:16
 format-word-requires : tie.Need-format-word-requires Inv-loop μ-loop
 format-word-requires c κs = rw (c .format-bits .ensures) (format-bits-lt (c .before .before .before .before .args .level) (c .before .before .before .before .args .mask) (omega arith) (omega arith))
 
--- src/lib.rt:323:16
 cast-word : tie.Need-cast-word Inv-loop μ-loop
 cast-word c = omega (arith, c .format-word .ok)
 
--- src/lib.rt:323:16
 mul-word : tie.Need-mul-word Inv-loop μ-loop
 mul-word c = omega (arith, c .format-word .ok)
 
--- src/lib.rt:325:5
 loop-holds : tie.Need-loop-holds Inv-loop μ-loop
 unfolding build
 loop-holds c = (omega arith, rw zero-mul)
 
--- src/lib.rt:326:17
 mul-a : tie.Need-mul-a Inv-loop μ-loop
 mul-a c = omega (arith, ends c)
 
--- src/lib.rt:327:17
 add-e : tie.Need-add-e Inv-loop μ-loop
 add-e c = omega (arith, ends c)
 
--- src/lib.rt:328:18
 sub-tint-row : tie.Need-sub-tint-row Inv-loop μ-loop
 sub-tint-row c = omega arith
 
--- src/lib.rt:328:18
 part-tint-row-start : tie.Need-part-tint-row-start Inv-loop μ-loop
 part-tint-row-start c = omega arith
 
--- src/lib.rt:328:18
 part-tint-row-end : tie.Need-part-tint-row-end Inv-loop μ-loop
 part-tint-row-end c = ends c .in-base
 
--- src/lib.rt:328:31
 sub-tint-row-2 : tie.Need-sub-tint-row-2 Inv-loop μ-loop
 sub-tint-row-2 c = omega arith
 
--- src/lib.rt:328:31
 part-tint-row-start-2 : tie.Need-part-tint-row-start-2 Inv-loop μ-loop
 part-tint-row-start-2 c = omega arith
 
--- src/lib.rt:328:31
 part-tint-row-end-2 : tie.Need-part-tint-row-end-2 Inv-loop μ-loop
 part-tint-row-end-2 c = ends (c .before) .in-out
 
--- src/lib.rt:328:47
 add-tint-row : tie.Need-add-tint-row Inv-loop μ-loop
 add-tint-row c = omega (arith, c .before .before .before .before .format-word .ok)
 
--- src/lib.rt:328:61
 add-tint-row-2 : tie.Need-add-tint-row-2 Inv-loop μ-loop
 add-tint-row-2 c = omega (arith, c .before .before .before .before .format-word .ok)
 
--- src/lib.rt:328:76
 row-flips-requires : tie.Need-row-flips-requires Inv-loop μ-loop
 row-flips-requires c κs = (omega arith, omega (arith, ends (c .before .before)))
 
--- src/lib.rt:328:9
 tint-row-requires : tie.Need-tint-row-requires Inv-loop μ-loop
 tint-row-requires c κs =
     let k = c .before .before .before in
@@ -128,15 +105,12 @@ tint-row-requires c κs =
     let e = ends k in
     (length-part _ _ _ (e .in-out) ∙ sym (length-part _ _ _ (e .in-base)), (rw (length-part (s .args .base .now) (k .before .loop .i * k .before .before .before .before .side .result) (k .before .before .before .before .side .result) (e .in-base)) (e .small), part-le 18 _ _ _ (e .in-base) (s .pre .1 .1 .1 .0)))
 
--- src/lib.rt:329:9
 add-i : tie.Need-add-i Inv-loop μ-loop
 add-i c = omega arith
 
--- src/lib.rt:325:5
 loop-less : tie.Need-loop-less Inv-loop μ-loop
 loop-less c = omega arith
 
--- src/lib.rt:325:5
 loop-again : tie.Need-loop-again Inv-loop μ-loop
 loop-again c =
     let k = c .before .before .before .before .before .before in
@@ -150,7 +124,6 @@ loop-again c =
           (k .before .before .format-word .ensures ∙ ap formatWord (k .before .before .before .format-bits .ensures)) (c .before .before .before .row-flips .ensures) h),
     )
 
--- src/lib.rt:318:1
 same-length : tie.Need-same-length Inv-loop μ-loop
 same-length c =
     let s = c .before .before .before .before .before .before .before in
@@ -160,7 +133,6 @@ same-length c =
     let room : n * n ≤ length (s .args .out .now) = rw size (s .pre .1 .1 .1 .1) in
     front-length _ (l .i * n) _ _ (l .inv .1) (le-trans (mul-le-mul-right n (l .inv .0)) room)
 
--- src/lib.rt:318:1
 returns : tie.Need-returns Inv-loop μ-loop
 returns c =
     let s = c .before .before .before .before .before .before .before in

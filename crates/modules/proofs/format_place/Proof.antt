@@ -1,3 +1,5 @@
+-- `modules::format_place` meets its contract: one case of the definition for each answer.
+-- Assumes nothing.
 use mathlib.Core.Path.{_≡_}
 use native.Mathlib.Omega.{arith}
 use borrow.Author.Tests.{eq-eqb, ne-eqb, le-leb, lt-leb}
@@ -6,80 +8,61 @@ use Rattle.modules.proofs.Stamps.{format-first, format-second}
 use borrow.Author.Needs.{needs}
 use Rattle.modules.proofs.format_place.Statement.{statement}
 use Rattle.modules.proofs.format_place.Tie as tie
-use Rattle.modules.proofs.format_place.Reads as reads
-use Rattle.modules.proofs.format_place.Lts as lts
-use Rattle.modules.proofs.place.Reads as place-reads
-use Rattle.tables.proofs.side.Reads as side-reads
 
--- src/lib.rt:77:9
 side-requires : tie.Need-side-requires
 side-requires c κs = search needs
 
--- src/lib.rt:80:32
 sub-place : tie.Need-sub-place
 sub-place c = search needs
 
--- src/lib.rt:80:32
 sub-place-2 : tie.Need-sub-place-2
 sub-place-2 c = search needs
 
--- src/lib.rt:80:13
 place-requires : tie.Need-place-requires
 place-requires c κs = search needs
 
--- src/lib.rt:80:13
 returns : tie.Need-returns
 unfolding formatTwo
 returns c = let a = c .before .before .before .before .args in
     format-second (a .v) (a .copy) (a .b) _ _ (c .before .before .before .side .ensures) (omega arith) (omega arith)
     (rw (le-leb (a .b) 7 (omega arith)) (c .place .ensures .0))
 
--- src/lib.rt:82:25
 sub-place-3 : tie.Need-sub-place-3
 sub-place-3 c = search needs
 
--- src/lib.rt:82:25
 add-place : tie.Need-add-place
 add-place c = search needs
 
--- src/lib.rt:82:9
 place-requires-2 : tie.Need-place-requires-2
 place-requires-2 c κs = search needs
 
--- src/lib.rt:82:9
 returns-2 : tie.Need-returns-2
 unfolding formatTwo
 returns-2 c = let a = c .before .before .before .before .args in
     format-second (a .v) (a .copy) (a .b) _ _ (c .before .before .before .side .ensures) (omega arith) (omega arith)
     (rw (lt-leb (a .b) 7 (omega arith)) (c .place2 .ensures .0))
 
--- src/lib.rt:85:9
 place-requires-3 : tie.Need-place-requires-3
 place-requires-3 c κs = search needs
 
--- src/lib.rt:85:9
 returns-3 : tie.Need-returns-3
 unfolding formatOne
 returns-3 c = let a = c .before .before .before .before .args in
     format-first (a .v) (a .copy) (a .b) _ _ (c .before .before .before .side .ensures) (omega arith) (omega arith)
     (rw (le-leb (a .b) 5 (omega arith)) (c .place3 .ensures .0))
 
--- src/lib.rt:88:9
 place-requires-4 : tie.Need-place-requires-4
 place-requires-4 c κs = search needs
 
--- src/lib.rt:88:9
 returns-4 : tie.Need-returns-4
 unfolding formatOne
 returns-4 c = let a = c .before .before .before .before .before .args in
     format-first (a .v) (a .copy) (a .b) _ _ (c .before .before .before .before .side .ensures) (omega arith) (omega arith)
     (rw (lt-leb (a .b) 5 (omega arith), eq-eqb (a .b) 6 (omega arith)) (c .place4 .ensures .0))
 
--- src/lib.rt:91:9
 place-requires-5 : tie.Need-place-requires-5
 place-requires-5 c κs = search needs
 
--- src/lib.rt:91:9
 returns-5 : tie.Need-returns-5
 unfolding formatOne
 returns-5 c = let a = c .before .before .before .before .before .before .args in
@@ -87,11 +70,9 @@ returns-5 c = let a = c .before .before .before .before .before .before .args in
     format-first (a .v) (a .copy) (a .b) _ _ (c .before .before .before .before .before .side .ensures) (omega arith) (omega arith)
     (rw b (c .place5 .ensures .0))
 
--- src/lib.rt:94:9
 place-requires-6 : tie.Need-place-requires-6
 place-requires-6 c κs = search needs
 
--- src/lib.rt:94:9
 returns-6 : tie.Need-returns-6
 unfolding formatOne
 returns-6 c = let a = c .before .before .before .before .before .before .before .args in
@@ -99,15 +80,12 @@ returns-6 c = let a = c .before .before .before .before .before .before .before 
     format-first (a .v) (a .copy) (a .b) _ _ (c .before .before .before .before .before .before .side .ensures) (omega arith) (omega arith)
     (rw b (c .place6 .ensures .0))
 
--- src/lib.rt:96:17
 sub-place-4 : tie.Need-sub-place-4
 sub-place-4 c = search needs
 
--- src/lib.rt:96:5
 place-requires-7 : tie.Need-place-requires-7
 place-requires-7 c κs = search needs
 
--- src/lib.rt:73:1
 returns-7 : tie.Need-returns-7
 unfolding formatOne
 returns-7 c = let a = c .before .before .before .before .before .before .before .args in

@@ -1,4 +1,6 @@
-use mathlib.Core.Path.{_≡_, refl, _∙_}
+-- `modules::formats` meets its contract: the invariant: t stores are made.
+-- Assumes nothing.
+use mathlib.Core.Path.{_≡_, refl}
 use Prim.Native.Nat.{_-_, _/_, _%_, _≤_}
 use native.Mathlib.Nat.{le-antisymm}
 use native.Mathlib.Omega.{arith}
@@ -7,9 +9,6 @@ use Rattle.modules.proofs.Geometry.{word-places}
 use Rattle.modules.proofs.Stamps.{stamped-none, stamped-more, made-length}
 use Rattle.modules.proofs.formats.Statement.{statement}
 use Rattle.modules.proofs.formats.Tie as tie
-use Rattle.modules.proofs.formats.Reads as reads
-use Rattle.modules.proofs.formats.Lts as lts
-use Rattle.modules.proofs.format_place.Reads as format-place-reads
 
 abbrev Inv-loop : tie.InvT-loop
 Inv-loop out₀ v t₀ out t = (t ≤ 30) × (out ≡ stamped (formatPlace v) formatValue t out₀)
@@ -17,38 +16,30 @@ Inv-loop out₀ v t₀ out t = (t ≤ 30) × (out ≡ stamped (formatPlace v) fo
 abbrev μ-loop : tie.MeasureT-loop
 μ-loop out₀ v t₀ out t = 30 - t
 
--- src/lib.rt:170:5
 loop-holds : tie.Need-loop-holds Inv-loop μ-loop
 loop-holds c = (omega arith, stamped-none _ _ _)
 
--- src/lib.rt:171:13
 format-place-requires : tie.Need-format-place-requires Inv-loop μ-loop
 format-place-requires c κs = (omega arith, (omega arith, (omega arith, omega arith)))
 
--- src/lib.rt:172:19
 add-out : tie.Need-add-out Inv-loop μ-loop
 add-out c = omega arith
 
--- src/lib.rt:172:18
 cast-out : tie.Need-cast-out Inv-loop μ-loop
 cast-out c = omega arith
 
--- src/lib.rt:172:9
 slice-write-out : tie.Need-slice-write-out Inv-loop μ-loop
 slice-write-out c =
     let l = c .before .before .loop in
     let v = c .before .before .before .before .args .v in
     omega (arith, made-length _ _ (l .t) _ (l .out) (l .inv .1), c .format-place .ensures, word-places v (omega arith) (omega arith) .format-inside (l .t % 2) (l .t / 2) (omega arith) (omega arith))
 
--- src/lib.rt:173:9
 add-t : tie.Need-add-t Inv-loop μ-loop
 add-t c = omega arith
 
--- src/lib.rt:170:5
 loop-less : tie.Need-loop-less Inv-loop μ-loop
 loop-less c = omega arith
 
--- src/lib.rt:170:5
 loop-again : tie.Need-loop-again Inv-loop μ-loop
 unfolding formatPlace formatValue
 loop-again c =
@@ -56,11 +47,9 @@ loop-again c =
     let v = c .before .before .before .before .args .v in
     (omega arith, stamped-more (formatPlace v) formatValue _ (l .out) (l .t) _ _ (l .inv .1) (c .format-place .ensures) refl)
 
--- src/lib.rt:165:1
 same-length : tie.Need-same-length Inv-loop μ-loop
 same-length c = made-length _ _ _ _ _ (c .before .loop .inv .1)
 
--- src/lib.rt:165:1
 returns : tie.Need-returns Inv-loop μ-loop
 returns c = rw (le-antisymm (c .before .loop .inv .0) (c .loop-test .left)) at (c .before .loop .inv .1)
 

@@ -1,3 +1,5 @@
+-- `modules::frame` meets its contract: timing, alignment, format bits and one store, one after the other.
+-- Assumes nothing.
 use mathlib.Core.Path.{_∙_}
 use native.Mathlib.Omega.{arith}
 use lib.ListN.{length-set}
@@ -5,39 +7,25 @@ use Rattle.modules.specs.Kinds.{frameOn}
 use borrow.Author.Needs.{needs}
 use Rattle.modules.proofs.frame.Statement.{statement}
 use Rattle.modules.proofs.frame.Tie as tie
-use Rattle.modules.proofs.frame.Reads as reads
-use Rattle.modules.proofs.frame.Lts as lts
-use Rattle.modules.proofs.alignments.Reads as alignments-reads
-use Rattle.modules.proofs.formats.Reads as formats-reads
-use Rattle.modules.proofs.place.Reads as place-reads
-use Rattle.modules.proofs.timing.Reads as timing-reads
-use Rattle.tables.proofs.side.Reads as side-reads
 
--- src/lib.rt:253:9
 side-requires : tie.Need-side-requires
 side-requires c κs = search needs
 
--- src/lib.rt:254:5
 timing-requires : tie.Need-timing-requires
 timing-requires c κs = (omega (arith, c .before .side .ensures), (omega (arith, c .before .side .ensures), rw (c .before .side .ensures) (c .before .before .before .pre .1 .1)))
 
--- src/lib.rt:255:5
 alignments-requires : tie.Need-alignments-requires
 alignments-requires c κs = search needs
 
--- src/lib.rt:256:5
 formats-requires : tie.Need-formats-requires
 formats-requires c κs = search needs
 
--- src/lib.rt:257:25
 sub-place : tie.Need-sub-place
 sub-place c = search needs
 
--- src/lib.rt:257:9
 place-requires : tie.Need-place-requires
 place-requires c κs = search needs
 
--- src/lib.rt:258:5
 slice-write-out : tie.Need-slice-write-out
 slice-write-out c =
     let s = c .before .before .before .before .before .before .before .before .before .before .before .before .before in
@@ -50,13 +38,11 @@ slice-write-out c =
       s .before .before .pre .1 .1,
     )
 
--- src/lib.rt:249:1
 same-length : tie.Need-same-length
 same-length c =
     simp length-set (c .before .before .before .formats .kept .0 ∙ c .before .before .before .before .before .before .before .alignments .kept .0
     ∙ c .before .before .before .before .before .before .before .before .before .before .before .timing .kept .0)
 
--- src/lib.rt:249:1
 returns : tie.Need-returns
 unfolding frameOn
 returns c =

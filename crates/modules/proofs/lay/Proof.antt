@@ -1,3 +1,5 @@
+-- `modules::lay` meets its contract: the front part is filled, and the rest is as it was.
+-- Assumes nothing.
 use native.Mathlib.Nat.{sub-zero}
 use native.Mathlib.Omega.{arith}
 use lib.Seq.{length-take-le}
@@ -5,40 +7,28 @@ use Rattle.modules.proofs.Stamps.{square-small}
 use borrow.Author.Needs.{needs}
 use Rattle.modules.proofs.lay.Statement.{statement}
 use Rattle.modules.proofs.lay.Tie as tie
-use Rattle.modules.proofs.lay.Reads as reads
-use Rattle.modules.proofs.lay.Lts as lts
-use Rattle.modules.proofs.fill.Reads as fill-reads
-use Rattle.tables.proofs.side.Reads as side-reads
 
--- src/lib.rt:417:9
 side-requires : tie.Need-side-requires
 side-requires c κs = search needs
 
--- src/lib.rt:418:13
 mul-n : tie.Need-mul-n
 mul-n c = omega (arith, square-small (c .side .result) (omega (arith, c .side .ensures)))
 
--- src/lib.rt:419:21
 sub-fill : tie.Need-sub-fill
 sub-fill c = search needs
 
--- src/lib.rt:419:21
 part-fill-start : tie.Need-part-fill-start
 part-fill-start c = search needs
 
--- src/lib.rt:419:21
 part-fill-end : tie.Need-part-fill-end
 part-fill-end c = rw (c .side .ensures) (omega arith)
 
--- src/lib.rt:419:5
 fill-requires : tie.Need-fill-requires
 fill-requires c κs = (omega arith, (omega arith, rw (sub-zero, c .before .side .ensures) (length-take-le _ _ (c .before .before .before .before .pre .1 .1))))
 
--- src/lib.rt:413:1
 same-length : tie.Need-same-length
 same-length c = search needs
 
--- src/lib.rt:413:1
 returns : tie.Need-returns
 returns c = rw (c .before .before .fill .ensures, sub-zero, c .before .before .before .before .side .ensures)
 

@@ -1,20 +1,15 @@
-use mathlib.Core.Path.{_≡_, refl, sym, ap, _∙_}
-use Prim.Native.Nat.{ℕ, suc, _+_, _-_, _*_, _≤_, _<_}
+-- `modules::pair` meets its contract: the invariant: 2t modules of the pair are met.
+-- Assumes nothing.
+use mathlib.Core.Path.{_≡_, sym, _∙_}
+use Prim.Native.Nat.{suc, _+_, _-_, _*_, _≤_, _<_}
 use native.Mathlib.Nat.{le-antisymm}
 use native.Mathlib.Omega.{arith}
 use Rattle.basics.specs.Bits.{byteBits}
 use Rattle.tables.specs.Tables.{side}
-use Rattle.modules.specs.Kinds.{Filling, filling, putAll, pairPlace}
+use Rattle.modules.specs.Kinds.{filling, putAll, pairPlace}
 use Rattle.modules.proofs.Filling.{put-none, put-more, kept-length, few-used, first-place, second-place}
 use Rattle.modules.proofs.pair.Statement.{statement}
 use Rattle.modules.proofs.pair.Tie as tie
-use Rattle.modules.proofs.pair.Reads as reads
-use Rattle.modules.proofs.pair.Lts as lts
-use Rattle.modules.proofs.pair_column.Reads as pair-column-reads
-use Rattle.modules.proofs.pair_row.Reads as pair-row-reads
-use Rattle.modules.proofs.place.Reads as place-reads
-use Rattle.modules.proofs.put.Reads as put-reads
-use Rattle.tables.proofs.side.Reads as side-reads
 
 abbrev Inv-loop : tie.InvT-loop
 Inv-loop codewords base₀ v q n s right used₀ t₀ base used t = (t ≤ s) × (filling base used ≡ putAll (byteBits codewords) (pairPlace (side v) q) (2 * t) (filling base₀ n))
@@ -22,7 +17,6 @@ Inv-loop codewords base₀ v q n s right used₀ t₀ base used t = (t ≤ s) ×
 abbrev μ-loop : tie.MeasureT-loop
 μ-loop codewords base₀ v q n s right used₀ t₀ base used t = s - t
 
--- src/lib.rt:384:9
 first : (c : tie.After-place Inv-loop μ-loop) → c .place .result ≡ pairPlace (side (c .before .before .before .before .before .before .before .before .args .v)) (c .before .before .before .before .before .before .before .before .args .q) (2 * c .before .before .before .loop .t)
 first c =
     first-place (c .before .before .before .before .before .before .before .before .args .v) (c .before .before .before .before .before .before .before .before .args .q) (c .before .before .before .loop .t) _ _ _ _ (c .before .before .before .before .before .side .ensures) (c .before .before .loop-test .taken)
@@ -36,24 +30,19 @@ second c =
 side-requires : tie.Need-side-requires Inv-loop μ-loop
 side-requires c κs = omega arith
 
--- src/lib.rt:385:9
 pair-column-requires : tie.Need-pair-column-requires Inv-loop μ-loop
 pair-column-requires c κs = (omega arith, (omega arith, omega arith))
 
--- src/lib.rt:388:5
 loop-holds : tie.Need-loop-holds Inv-loop μ-loop
 loop-holds c = (omega arith, put-none _ _ _)
 
--- src/lib.rt:389:26
 pair-row-requires : tie.Need-pair-row-requires Inv-loop μ-loop
 pair-row-requires c κs = omega arith
 
--- src/lib.rt:389:13
 place-requires : tie.Need-place-requires Inv-loop μ-loop
 place-requires c κs =
     (omega (arith, c .before .before .before .before .side .ensures), (omega (arith, c .pair-row .ensures .1), omega (arith, c .before .before .before .pair-column .ensures .1 .1, c .before .before .before .before .side .ensures)))
 
--- src/lib.rt:390:9
 put-requires : tie.Need-put-requires Inv-loop μ-loop
 put-requires c κs =
     let s = c .before .before .before .before .before .before .before .before .before in
@@ -63,11 +52,9 @@ put-requires c κs =
       omega (arith, few-used _ _ (2 * l .t) _ _ _ _ (l .inv .1), c .before .before .before .before .before .before .side .ensures, s .pre .1 .1 .1 .0),
     )
 
--- src/lib.rt:391:37
 sub-put : tie.Need-sub-put Inv-loop μ-loop
 sub-put c = omega (arith, c .before .before .before .before .before .place .ensures .0, c .before .before .before .before .before .before .before .before .before .pair-column .ensures .1 .0)
 
--- src/lib.rt:391:9
 put-requires-2 : tie.Need-put-requires-2 Inv-loop μ-loop
 put-requires-2 c κs =
     let s = c .before .before .before .before .before .before .before .before .before .before .before .before .before in
@@ -78,15 +65,12 @@ put-requires-2 c κs =
       omega (arith, few-used _ _ (suc (2 * l .t)) _ _ _ _ one, c .before .before .before .before .before .before .before .before .before .before .side .ensures, s .pre .1 .1 .1 .0),
     )
 
--- src/lib.rt:392:9
 add-t : tie.Need-add-t Inv-loop μ-loop
 add-t c = omega arith
 
--- src/lib.rt:388:5
 loop-less : tie.Need-loop-less Inv-loop μ-loop
 loop-less c = omega arith
 
--- src/lib.rt:388:5
 loop-again : tie.Need-loop-again Inv-loop μ-loop
 loop-again c =
     let l = c .before .before .before .before .before .before .before .before .before .before .before .loop in
@@ -95,11 +79,9 @@ loop-again c =
     let count : suc (suc (2 * l .t)) ≡ 2 * (l .t + 1) = omega arith in
     (omega arith, rw count at two)
 
--- src/lib.rt:380:1
 same-length : tie.Need-same-length Inv-loop μ-loop
 same-length c = kept-length _ _ _ _ _ _ _ (c .before .loop .inv .1)
 
--- src/lib.rt:380:1
 returns : tie.Need-returns Inv-loop μ-loop
 returns c =
     let l = c .before .loop in

@@ -1,40 +1,28 @@
+-- `modules::patterns` meets its contract: what is drawn is what the computed test compares with the version's kinds.
+-- Assumes nothing.
 use native.Mathlib.Omega.{arith}
 use Rattle.modules.proofs.Drawn.{below7, from7, below-drawn, from-drawn}
 use borrow.Author.Needs.{needs}
 use Rattle.modules.proofs.patterns.Statement.{statement}
 use Rattle.modules.proofs.patterns.Tie as tie
-use Rattle.modules.proofs.patterns.Reads as reads
-use Rattle.modules.proofs.patterns.Lts as lts
-use Rattle.modules.proofs.clear.Reads as clear-reads
-use Rattle.modules.proofs.finders.Reads as finders-reads
-use Rattle.modules.proofs.frame.Reads as frame-reads
-use Rattle.modules.proofs.versions.Reads as versions-reads
-use Rattle.tables.proofs.side.Reads as side-reads
-use Rattle.words.proofs.version_word.Reads as version-word-reads
 
--- src/lib.rt:266:5
 clear-requires : tie.Need-clear-requires
 clear-requires c κs = search needs
 
--- src/lib.rt:267:18
 side-requires : tie.Need-side-requires
 side-requires c κs = search needs
 
--- src/lib.rt:267:5
 finders-requires : tie.Need-finders-requires
 finders-requires c κs =
     let k = c .before .before .before .before in
     (omega (arith, c .side .ensures), (omega (arith, c .side .ensures), rw (c .side .ensures) (omega (arith, k .clear .kept .0, k .before .before .before .pre .1 .1))))
 
--- src/lib.rt:268:5
 frame-requires : tie.Need-frame-requires
 frame-requires c κs = search needs
 
--- src/lib.rt:270:9
 same-length : tie.Need-same-length
 same-length c = search needs
 
--- src/lib.rt:270:9
 returns : tie.Need-returns
 unfolding below7
 returns c =
@@ -42,27 +30,21 @@ returns c =
     rw (c .before .before .before .frame .ensures, c .before .before .before .before .before .before .before .finders .ensures, c .before .before .before .before .before .before .before .before .before .before .before .before .clear .ensures, c .before .before .before .before .before .before .before .before .side .ensures, s .pre .1 .1)
     (below-drawn (s .args .v) (omega arith) (omega arith))
 
--- src/lib.rt:272:42
 cast-version-word : tie.Need-cast-version-word
 cast-version-word c = search needs
 
--- src/lib.rt:272:22
 version-word-requires : tie.Need-version-word-requires
 version-word-requires c κs = search needs
 
--- src/lib.rt:272:22
 cast-versions : tie.Need-cast-versions
 cast-versions c = search needs
 
--- src/lib.rt:272:5
 versions-requires : tie.Need-versions-requires
 versions-requires c κs = search needs
 
--- src/lib.rt:262:1
 same-length-2 : tie.Need-same-length-2
 same-length-2 c = search needs
 
--- src/lib.rt:262:1
 returns-2 : tie.Need-returns-2
 unfolding below7 from7
 returns-2 c =

@@ -1,20 +1,17 @@
+-- `modules::place` meets its contract: a row and a column below the side make a place below its square.
+-- Assumes nothing.
 use native.Mathlib.Omega.{arith}
 use Rattle.modules.proofs.Stamps.{square-small, place-lt}
 use mathlib.Core.Path.{refl}
 use Rattle.modules.proofs.place.Statement.{statement}
 use Rattle.modules.proofs.place.Tie as tie
-use Rattle.modules.proofs.place.Reads as reads
-use Rattle.modules.proofs.place.Lts as lts
 
--- src/lib.rt:69:5
 mul-result : tie.Need-mul-result
 mul-result c = omega (arith, square-small (c .args .s) (omega arith), place-lt (c .args .s) (c .args .i) (c .args .j) (omega arith) (omega arith))
 
--- src/lib.rt:69:5
 add-result : tie.Need-add-result
 add-result c = omega (arith, square-small (c .args .s) (omega arith), place-lt (c .args .s) (c .args .i) (c .args .j) (omega arith) (omega arith))
 
--- src/lib.rt:65:1
 returns : tie.Need-returns
 returns c = (refl, place-lt (c .args .s) (c .args .i) (c .args .j) (omega arith) (omega arith))
 

@@ -1,4 +1,6 @@
-use mathlib.Core.Path.{_≡_, ap, _∙_}
+-- `modules::row_flips` meets its contract: one computed test over every mask and row.
+-- Assumes nothing.
+use mathlib.Core.Path.{ap, _∙_}
 use mathlib.Core.List.{List, [], _∷_}
 use Prim.Native.Nat.{ℕ, _*_, _%_, _≤_, _<_}
 use native.Mathlib.Omega.{arith}
@@ -10,11 +12,7 @@ use Rattle.modules.proofs.Open.{every}
 use borrow.Author.Needs.{needs}
 use Rattle.modules.proofs.row_flips.Statement.{statement}
 use Rattle.modules.proofs.row_flips.Tie as tie
-use Rattle.modules.proofs.row_flips.Reads as reads
-use Rattle.modules.proofs.row_flips.Lts as lts
-use Rattle.modules.proofs.wide.Reads as wide-reads
 
--- src/lib.rt:61:10
 rows : List (List ℕ)
 rows =
     (21 ∷ 42 ∷ 21 ∷ 42 ∷ 21 ∷ 42 ∷ 21 ∷ 42 ∷ 21 ∷ 42 ∷ 21 ∷ 42 ∷ []) ∷ (63 ∷ 0 ∷ 63 ∷ 0 ∷ 63 ∷ 0 ∷ 63 ∷ 0 ∷ 63 ∷ 0 ∷ 63 ∷ 0 ∷ []) ∷
@@ -39,25 +37,20 @@ low m i hm hi = leb→le _ _ (grid 8 12 (λ m i. leb (getD (getD rows m []) i 0)
 mul-wide : tie.Need-mul-wide
 mul-wide c = search needs
 
--- src/lib.rt:61:10
 index-1-wide : tie.Need-index-1-wide
 index-1-wide c = search needs
 
--- src/lib.rt:61:10
 index-2-wide : tie.Need-index-2-wide
 index-2-wide c = search needs
 
--- src/lib.rt:61:5
 wide-requires : tie.Need-wide-requires
 wide-requires c κs = search needs
 
--- src/lib.rt:61:5
 mul-result : tie.Need-mul-result
 unfolding rows
 mul-result c =
     omega (arith, c .wide .ensures, low (c .before .before .args .mask) (c .before .before .args .i % 12) (omega arith) (omega arith))
 
--- src/lib.rt:57:1
 returns : tie.Need-returns
 unfolding rows
 returns c =

@@ -1,4 +1,6 @@
-use mathlib.Core.Path.{_≡_, refl, _∙_}
+-- `modules::timing` meets its contract: the invariant: t stores are made.
+-- Assumes nothing.
+use mathlib.Core.Path.{_≡_}
 use Prim.Native.Nat.{_-_, _≤_}
 use native.Mathlib.Nat.{le-antisymm}
 use native.Mathlib.Omega.{arith}
@@ -6,10 +8,6 @@ use Rattle.modules.specs.Kinds.{stamped, timingPlace, timingValue}
 use Rattle.modules.proofs.Stamps.{stamped-none, stamped-more, made-length}
 use Rattle.modules.proofs.timing.Statement.{statement}
 use Rattle.modules.proofs.timing.Tie as tie
-use Rattle.modules.proofs.timing.Reads as reads
-use Rattle.modules.proofs.timing.Lts as lts
-use Rattle.modules.proofs.bit_of.Reads as bit-of-reads
-use Rattle.modules.proofs.timing_place.Reads as timing-place-reads
 
 abbrev Inv-loop : tie.InvT-loop
 Inv-loop out₀ s n t₀ out t = (t ≤ n) × (out ≡ stamped (timingPlace s) timingValue t out₀)
@@ -17,52 +15,41 @@ Inv-loop out₀ s n t₀ out t = (t ≤ n) × (out ≡ stamped (timingPlace s) t
 abbrev μ-loop : tie.MeasureT-loop
 μ-loop out₀ s n t₀ out t = n - t
 
--- src/lib.rt:155:18
 sub-n : tie.Need-sub-n Inv-loop μ-loop
 sub-n c = omega arith
 
--- src/lib.rt:155:13
 mul-n : tie.Need-mul-n Inv-loop μ-loop
 mul-n c = omega arith
 
--- src/lib.rt:157:5
 loop-holds : tie.Need-loop-holds Inv-loop μ-loop
 loop-holds c = (omega arith, stamped-none _ _ _)
 
--- src/lib.rt:158:13
 timing-place-requires : tie.Need-timing-place-requires Inv-loop μ-loop
 timing-place-requires c κs = (omega arith, (omega arith, omega arith))
 
--- src/lib.rt:159:18
 bit-of-requires : tie.Need-bit-of-requires Inv-loop μ-loop
 bit-of-requires c κs = omega arith
 
--- src/lib.rt:159:9
 slice-write-out : tie.Need-slice-write-out Inv-loop μ-loop
 slice-write-out c =
     let l = c .before .before .before .loop in
     omega (arith, made-length _ _ (l .t) _ (l .out) (l .inv .1), c .before .timing-place .ensures .1)
 
--- src/lib.rt:160:9
 add-t : tie.Need-add-t Inv-loop μ-loop
 add-t c = omega arith
 
--- src/lib.rt:157:5
 loop-less : tie.Need-loop-less Inv-loop μ-loop
 loop-less c = omega arith
 
--- src/lib.rt:157:5
 loop-again : tie.Need-loop-again Inv-loop μ-loop
 unfolding timingValue
 loop-again c =
     let l = c .before .before .before .loop in
     (omega arith, stamped-more _ timingValue _ (l .out) (l .t) _ _ (l .inv .1) (c .before .timing-place .ensures .0) (c .bit-of .ensures))
 
--- src/lib.rt:151:1
 same-length : tie.Need-same-length Inv-loop μ-loop
 same-length c = made-length _ _ _ _ _ (c .before .loop .inv .1)
 
--- src/lib.rt:151:1
 returns : tie.Need-returns Inv-loop μ-loop
 returns c = rw (le-antisymm (c .before .loop .inv .0) (c .loop-test .left)) at (c .before .loop .inv .1)
 

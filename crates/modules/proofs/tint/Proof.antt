@@ -1,35 +1,28 @@
+-- `modules::tint` meets its contract: the bit of one word or of the other.
+-- Assumes nothing.
 use mathlib.Core.Path.{sym, _∙_}
 use Rattle.basics.specs.Bits.{bitOf}
-use native.Mathlib.Omega.{arith}
 use borrow.Author.Tests.{eq-eqb, ne-eqb}
 use Rattle.modules.specs.Kinds.{tinted}
 use borrow.Author.Needs.{needs}
 use Rattle.modules.proofs.tint.Statement.{statement}
 use Rattle.modules.proofs.tint.Tie as tie
-use Rattle.modules.proofs.tint.Reads as reads
-use Rattle.modules.proofs.tint.Lts as lts
-use Rattle.modules.proofs.bit_of.Reads as bit-of-reads
 
--- src/lib.rt:299:8
 bit-of-requires : tie.Need-bit-of-requires
 bit-of-requires c κs = search needs
 
--- src/lib.rt:300:9
 bit-of-requires-2 : tie.Need-bit-of-requires-2
 bit-of-requires-2 c κs = search needs
 
--- src/lib.rt:300:9
 returns : tie.Need-returns
 unfolding tinted
 returns c =
     let a = c .before .before .before .args in
     rw (eq-eqb (bitOf (a .row) (a .j)) 0 (sym (c .before .before .bit-of .ensures) ∙ c .before .if1 .taken)) (c .bit-of2 .ensures)
 
--- src/lib.rt:302:5
 bit-of-requires-3 : tie.Need-bit-of-requires-3
 bit-of-requires-3 c κs = search needs
 
--- src/lib.rt:295:1
 returns-2 : tie.Need-returns-2
 unfolding tinted
 returns-2 c =

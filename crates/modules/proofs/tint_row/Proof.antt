@@ -1,5 +1,7 @@
+-- `modules::tint_row` meets its contract: the invariant: the first j colours are written.
+-- Assumes nothing.
 use mathlib.Core.Path.{_≡_, refl, _∙_}
-use Prim.Native.Nat.{ℕ, _-_, _≤_}
+use Prim.Native.Nat.{_-_, _≤_}
 use native.Mathlib.Nat.{le-antisymm}
 use native.Mathlib.Omega.{arith}
 use lib.ListN.{length, take, getD, length-set}
@@ -8,9 +10,6 @@ use Rattle.basics.proofs.Build.{build-put, build-all}
 use Rattle.modules.specs.Kinds.{tinted}
 use Rattle.modules.proofs.tint_row.Statement.{statement}
 use Rattle.modules.proofs.tint_row.Tie as tie
-use Rattle.modules.proofs.tint_row.Reads as reads
-use Rattle.modules.proofs.tint_row.Lts as lts
-use Rattle.modules.proofs.tint.Reads as tint-reads
 
 abbrev Inv-loop : tie.InvT-loop
 Inv-loop base out₀ plain turned row j₀ out j = (j ≤ length base) × ((length out ≡ length out₀) × (take j out ≡ build (λ j. tinted plain turned row j (getD base j 0)) j))
@@ -18,45 +17,36 @@ Inv-loop base out₀ plain turned row j₀ out j = (j ≤ length base) × ((leng
 abbrev μ-loop : tie.MeasureT-loop
 μ-loop base out₀ plain turned row j₀ out j = length base - j
 
--- src/lib.rt:311:5
 loop-holds : tie.Need-loop-holds Inv-loop μ-loop
 unfolding build
 loop-holds c = (omega arith, (refl, refl))
 
--- src/lib.rt:312:46
 shared-slice-read-tint : tie.Need-shared-slice-read-tint Inv-loop μ-loop
 shared-slice-read-tint c = omega arith
 
--- src/lib.rt:312:18
 tint-requires : tie.Need-tint-requires Inv-loop μ-loop
 tint-requires c κs =
     let s = c .before .before .before .before .before in
     let l = c .before .before .loop in
     (omega arith, omega (arith, s .pre .1 .1 (l .j) (omega arith)))
 
--- src/lib.rt:312:9
 slice-write-out : tie.Need-slice-write-out Inv-loop μ-loop
 slice-write-out c = omega arith
 
--- src/lib.rt:313:9
 add-j : tie.Need-add-j Inv-loop μ-loop
 add-j c = omega arith
 
--- src/lib.rt:311:5
 loop-less : tie.Need-loop-less Inv-loop μ-loop
 loop-less c = omega arith
 
--- src/lib.rt:311:5
 loop-again : tie.Need-loop-again Inv-loop μ-loop
 loop-again c =
     let l = c .before .before .before .loop in
     (omega arith, (simp length-set (l .inv .1 .0), build-put _ (l .out) (l .j) _ (l .inv .1 .1) (omega arith) (c .tint .ensures)))
 
--- src/lib.rt:306:1
 same-length : tie.Need-same-length Inv-loop μ-loop
 same-length c = c .before .loop .inv .1 .0
 
--- src/lib.rt:306:1
 returns : tie.Need-returns Inv-loop μ-loop
 returns c =
     let l = c .before .loop in

@@ -1,4 +1,6 @@
-use mathlib.Core.Path.{_≡_, refl, _∙_}
+-- `modules::versions` meets its contract: the invariant: t stores are made.
+-- Assumes nothing.
+use mathlib.Core.Path.{_≡_}
 use Prim.Native.Nat.{_-_, _/_, _%_, _≤_}
 use native.Mathlib.Nat.{le-antisymm}
 use native.Mathlib.Omega.{arith}
@@ -7,10 +9,6 @@ use Rattle.modules.proofs.Geometry.{word-places}
 use Rattle.modules.proofs.Stamps.{stamped-none, stamped-more, made-length}
 use Rattle.modules.proofs.versions.Statement.{statement}
 use Rattle.modules.proofs.versions.Tie as tie
-use Rattle.modules.proofs.versions.Reads as reads
-use Rattle.modules.proofs.versions.Lts as lts
-use Rattle.modules.proofs.bit_of.Reads as bit-of-reads
-use Rattle.modules.proofs.version_place.Reads as version-place-reads
 
 abbrev Inv-loop : tie.InvT-loop
 Inv-loop out₀ v word t₀ out t = (t ≤ 36) × (out ≡ stamped (versionPlace v) (versionValue word) t out₀)
@@ -18,34 +16,27 @@ Inv-loop out₀ v word t₀ out t = (t ≤ 36) × (out ≡ stamped (versionPlace
 abbrev μ-loop : tie.MeasureT-loop
 μ-loop out₀ v word t₀ out t = 36 - t
 
--- src/lib.rt:183:5
 loop-holds : tie.Need-loop-holds Inv-loop μ-loop
 loop-holds c = (omega arith, stamped-none _ _ _)
 
--- src/lib.rt:184:13
 version-place-requires : tie.Need-version-place-requires Inv-loop μ-loop
 version-place-requires c κs = (omega arith, (omega arith, (omega arith, omega arith)))
 
--- src/lib.rt:185:18
 bit-of-requires : tie.Need-bit-of-requires Inv-loop μ-loop
 bit-of-requires c κs = omega arith
 
--- src/lib.rt:185:9
 slice-write-out : tie.Need-slice-write-out Inv-loop μ-loop
 slice-write-out c =
     let l = c .before .before .before .loop in
     let v = c .before .before .before .before .before .args .v in
     omega (arith, made-length _ _ (l .t) _ (l .out) (l .inv .1), c .before .version-place .ensures, word-places v (omega arith) (omega arith) .version-inside (l .t % 2) (l .t / 2) (omega arith) (omega arith) (omega arith))
 
--- src/lib.rt:186:9
 add-t : tie.Need-add-t Inv-loop μ-loop
 add-t c = omega arith
 
--- src/lib.rt:183:5
 loop-less : tie.Need-loop-less Inv-loop μ-loop
 loop-less c = omega arith
 
--- src/lib.rt:183:5
 loop-again : tie.Need-loop-again Inv-loop μ-loop
 unfolding versionPlace versionValue
 loop-again c =
@@ -53,11 +44,9 @@ loop-again c =
     let a = c .before .before .before .before .before .args in
     (omega arith, stamped-more (versionPlace (a .v)) (versionValue (a .word)) _ (l .out) (l .t) _ _ (l .inv .1) (c .before .version-place .ensures) (c .bit-of .ensures))
 
--- src/lib.rt:178:1
 same-length : tie.Need-same-length Inv-loop μ-loop
 same-length c = made-length _ _ _ _ _ (c .before .loop .inv .1)
 
--- src/lib.rt:178:1
 returns : tie.Need-returns Inv-loop μ-loop
 returns c = rw (le-antisymm (c .before .loop .inv .0) (c .loop-test .left)) at (c .before .loop .inv .1)
 
