@@ -13,53 +13,7 @@ ghost use Rattle.parse.specs.Steps.{HeadReads, BodyAsks, BodyReads, Step
 ghost use Rattle.parse.specs.Groups.{groupOf, groupCharacters, InGroup};
 
 // The characters in the order of their codes.
-const ALPHABET: [u8; 45] = [
-    48,
-    49,
-    50,
-    51,
-    52,
-    53,
-    54,
-    55,
-    56,
-    57,
-    65,
-    66,
-    67,
-    68,
-    69,
-    70,
-    71,
-    72,
-    73,
-    74,
-    75,
-    76,
-    77,
-    78,
-    79,
-    80,
-    81,
-    82,
-    83,
-    84,
-    85,
-    86,
-    87,
-    88,
-    89,
-    90,
-    32,
-    36,
-    37,
-    42,
-    43,
-    45,
-    46,
-    47,
-    58,
-];
+const ALPHABET: [u8; 45] = *b"0123456789ABCDEFGHIJKLMNOPQRSTUVWXYZ $%*+-./:";
 
 // The next group of a body: how many characters, in how many bits, and the most that it may be.
 pub struct Group {
@@ -378,8 +332,8 @@ pub fn parse(codewords: &[u8], v: usize, payload: &mut [u8], list: &mut [u16]) -
     requires { ⌜ (length (now codewords) ≤ mostData v) × ((652 ≤ length (now payload)) × (308 ≤ length (now list))) ⌝ }
     ensures { λ r. ⌜ (r ≡ answerOf (message v (now (codewords .entry)))) × ((now (payload .exit) ≡ payloadAfter (message v (now (codewords .entry))) (now (payload .entry))) × (now (list .exit) ≡ listAfter (message v (now (codewords .entry))) (now (list .entry)))) ⌝ }
 {
-    let mut bytes = [0u8; 652];
-    let mut pairs = [0u16; 308];
+    let mut bytes = [0u8; tables::MOST_PAYLOAD];
+    let mut pairs = [0u16; tables::MOST_LIST];
     let sizes = match fill(codewords, v, &mut bytes, &mut pairs) {
         Parsing::Whole(s) => s,
         Parsing::Faulty(n) => return Parsing::Faulty(n),
