@@ -26,6 +26,7 @@ use Rattle.theory.proofs.Distance as theory
 use Rattle.theory.proofs.Gf.{gf256, locators, locators-apart}
 use Rattle.code.specs.Code.{value, valueAfter, plus, generator, divided, lower, checks, Codeword, apartAt}
 use Rattle.code.specs.Lanes.{rooted}
+use Rattle.code.specs.Theorems.{ChecksCodeword}
 use Rattle.code.proofs.Division.{zeros-get, length-plus, plus-get, length-generator, generator-get, scaled-get}
 use Rattle.code.proofs.Evaluate.{eval, eval-append, eval-split, eval-zeros, eval-plus, eval-times}
 use Rattle.code.proofs.Bridge.{Bytes, word, bytes-rest, value-lt, value-sum}
@@ -284,8 +285,6 @@ no-other n held r m b e k =
         ∙ ap (λ (N : ℕ). psum gf256 N (locators N) (word (checks n held)) i) (checks-length n held ∙ sym e)
 
 -- data followed by its n checks is a codeword, and no other checks make it one
-pub checks-codeword : (n : ℕ) (held : List ℕ) → n ≤ 255 → AtMost 255 held
-    → (length (checks n held) ≡ n) × Codeword n (held ++ checks n held)
-    × ((r : List ℕ) → length r ≡ n → Codeword n (held ++ r) → r ≡ checks n held)
+pub checks-codeword : ChecksCodeword
 checks-codeword n held m b =
     (checks-length n held, with-checks n held (data-bytes held b), λ r e k. no-other n held r m (data-bytes held b) e k)

@@ -11,7 +11,8 @@ use Rattle.field.proofs.Byte.{Byte, val, elt, val-elt}
 use Rattle.theory.proofs.Places.{Agree, psum}
 use Rattle.theory.proofs.Distance as theory
 use Rattle.theory.proofs.Gf.{gf256, locators, locators-apart}
-use Rattle.code.specs.Code.{Codeword, Stands, apartAt, differing}
+use Rattle.code.specs.Code.{Codeword, Stands, differing}
+use Rattle.code.specs.Theorems.{Distance, StandsOnly}
 use Rattle.code.proofs.Bridge.{word, codeword-sums}
 use Rattle.code.proofs.Places.{apart-places, length-apart, apart-agree, unread, wrong, length-unread, length-wrong, stands-agree}
 
@@ -24,7 +25,7 @@ sums : (N n : ℕ) (c : List ℕ) → length c ≡ N → Codeword n c → (i : �
 sums N n c e k i h = ap (λ (m : ℕ). psum gf256 m (locators m) (word c) i) (sym e) ∙ codeword-sums k i h
 
 -- two codewords of one length that differ in at most n places are equal
-pub distance : (n : ℕ) (a b : List ℕ) → length a ≡ length b → length a ≤ 255 → Codeword n a → Codeword n b → apartAt a b ≤ n → a ≡ b
+pub distance : Distance
 distance n a b e m ka kb near =
     ext-getD 0 a b e
     (λ j l.
@@ -51,8 +52,7 @@ stands-same n room w flags c₁ c₂ t₁ e₁ t₂ e₂ r m s₁ s₂ =
     (sums (length w) n c₁ (s₁ .long) (s₁ .codeword)) (sums (length w) n c₂ (s₂ .long) (s₂ .codeword)) j (omega (arith, s₁ .long))))
 
 -- at most one codeword stands for a block, with one t and one e
-pub stands-only : (n room : ℕ) (w flags c₁ c₂ : List ℕ) (t₁ e₁ t₂ e₂ : ℕ) → room ≤ n → length w ≤ 255
-    → Stands n room w flags c₁ t₁ e₁ → Stands n room w flags c₂ t₂ e₂ → (c₁ ≡ c₂) × (t₁ ≡ t₂) × (e₁ ≡ e₂)
+pub stands-only : StandsOnly
 stands-only n room w flags c₁ c₂ t₁ e₁ t₂ e₂ r m s₁ s₂ =
     let c : c₁ ≡ c₂ = stands-same n room w flags c₁ c₂ t₁ e₁ t₂ e₂ r m s₁ s₂ in
     (c, s₁ .differs ∙ ap (differing w flags) c ∙ sym (s₂ .differs), s₁ .missing ∙ sym (s₂ .missing))

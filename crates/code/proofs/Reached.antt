@@ -16,6 +16,7 @@ use Rattle.field.specs.Field.{powN}
 use Rattle.field.proofs.Byte.{elt}
 use Rattle.theory.proofs.Gf.{gf256}
 use Rattle.code.specs.Code.{value, generator, Codeword, apartAt}
+use Rattle.code.specs.Theorems.{DistanceReached}
 use Rattle.code.proofs.Division.{zeros-get, length-generator}
 use Rattle.code.proofs.Evaluate.{eval-append, eval-zeros}
 use Rattle.code.proofs.Bridge.{Bytes, value-lt}
@@ -90,8 +91,7 @@ module _ (n k : ℕ) where
   exactly m = let l : ¬ (apartAt reached nothing ≤ n) = not-fewer m in omega (arith, at-most)
 
 -- some two codewords of N differ in n + 1 places
-pub distance-reached : (n N : ℕ) → n < N → N ≤ 255
-    → (a : List ℕ) × (b : List ℕ) × (length a ≡ N) × (length b ≡ N) × Codeword n a × Codeword n b × (apartAt a b ≡ suc n)
+pub distance-reached : DistanceReached
 unfolding reached nothing
 distance-reached n N h m =
     let k : ℕ = N - suc n in
