@@ -1,4 +1,6 @@
+pub mod Answers
 pub mod Drawn
 pub mod Faults
 pub mod Fit
 pub mod Refusals
+pub mod Steps

@@ -1,11 +1,80 @@
--- What the code's own types say.
+-- What the steps of `write` say.
 -- Assumes nothing.
 use mathlib.Core.Path.{_≡_}
-use Prim.Native.Nat.{ℕ}
+use mathlib.Core.Bool.{cond}
+use mathlib.Core.List.{List, _++_, map}
+use Prim.Native.Nat.{ℕ, _*_, _≤_, _<_}
+use lib.Dec.{eqb}
+use lib.ListN.{length, drop}
+use Rattle.basics.specs.Lists.{AtMost, upTo}
+use Rattle.tables.specs.Tables.{side, mostCodewords, mostModules}
+use Rattle.modules.specs.Modules.{symbol}
+use Rattle.modules.specs.Kinds.{finished}
+use Rattle.penalty.specs.Penalty.{score, leastPlace}
 use Rattle.writer.specs.declared.Checked.{Checked}
-use Rattle.writer.specs.Writer.{Request, taken, refusal}
+use Rattle.writer.specs.declared.Drawing as declared
+use Rattle.writer.specs.declared.Drawing.the-variants as answers
+use Rattle.writer.specs.Writer.{Request, Drawing, Drawn, Refused, DrawnNumbers, taken, refusal, chosen, draw, outputAfter}
 
 -- the refusal of a request for `out` bytes of output, and the version taken where there is none
 pub record Checks (r : Request) (out : ℕ) (c : Checked) : Type 0 where
   pub number : c .refusal ≡ refusal r out
   pub version : refusal r out ≡ 0 → c .version ≡ taken (r .level) (r .version) (r .list)
+
+-- what is laid once for all masks: kinds of modules, of which each mask makes light and dark ones
+pub record Base (v level : ℕ) (base : List ℕ) : Type 0 where
+  pub long : length base ≡ side v * side v
+  pub kinds : AtMost 18 base
+  pub colours : (mask : ℕ) → AtMost 1 (finished v level mask base)
+
+-- what stands past a version's matrix is as it was
+pub record Beyond (v : ℕ) (before after : List ℕ) : Type 0 where
+  pub rest : drop (side v * side v) after ≡ drop (side v * side v) before
+
+-- "the least score is taken, the lowest mask among equals"
+unfoldable pub leastMask : (v level : ℕ) (base : List ℕ) → ℕ
+leastMask v level base = leastPlace (map (λ k. score (side v) (finished v level k base)) (upTo 8))
+
+-- "mask (0 to 7, or 8 to choose)"
+unfoldable pub maskDrawn : (v level mask : ℕ) (base : List ℕ) → ℕ
+maskDrawn v level mask base = cond (eqb mask 8) (leastMask v level base) mask
+
+-- the buffers of a version's drawing
+pub record Room (v : ℕ) (held words base : List ℕ) : Type 0 where
+  pub held-long : length held ≡ mostCodewords
+  pub words-long : length words ≡ mostCodewords
+  pub base-long : length base ≡ side v * side v
+
+-- the mask that is drawn, and its symbol in front of what was past it
+pub record Finishes (v level mask : ℕ) (base out : List ℕ) (drawn : ℕ) (after : List ℕ) : Type 0 where
+  pub choice : drawn ≡ maskDrawn v level mask base
+  pub drawing : after ≡ finished v level drawn base ++ drop (side v * side v) out
+
+-- the buffers of any version's drawing
+pub record Buffers (v : ℕ) (held words base out : List ℕ) : Type 0 where
+  pub held-long : length held ≡ mostCodewords
+  pub words-long : length words ≡ mostCodewords
+  pub base-long : length base ≡ mostModules
+  pub out-long : side v * side v ≤ length out
+
+-- the mask that is drawn, and the symbol of the codewords in front of what was past it
+pub record DrawsAt (v level mask : ℕ) (cs out : List ℕ) (drawn : ℕ) (after : List ℕ) : Type 0 where
+  pub choice : drawn ≡ chosen v level mask cs
+  pub drawing : after ≡ symbol v level drawn cs ++ drop (side v * side v) out
+
+-- ---- the answer
+
+-- "Its answer: version, mask, side", or the refusal's number
+abbrev pub answer : Drawing → declared.Drawing
+answer (Drawn v mask modules) = answers.Drawn (record { version = v; mask = mask; side = side v })
+answer (Refused n) = answers.Refused n
+
+-- the paper's numbers for each case: "A refusal carries its number and zeros"
+abbrev pub numbers : declared.Drawing → DrawnNumbers
+numbers (answers.Drawn s) = record { refusal = 0; version = s .version; mask = s .mask; side = s .side }
+numbers (answers.Refused n) = record { refusal = n; version = 0; mask = 0; side = 0 }
+
+-- what `write` answers and what the output then holds, refused or not
+pub record Writes (r : Request) (out : List ℕ) (a : declared.Drawing) (after : List ℕ) : Type 0 where
+  pub answered : a ≡ answer (draw r (length out))
+  pub output : after ≡ outputAfter (draw r (length out)) out
