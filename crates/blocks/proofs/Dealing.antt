@@ -17,8 +17,9 @@ use Rattle.tables.specs.Tables.{total, checkCount, blockCount, dataCount, block
 use Rattle.tables.proofs.Rules.{data-sum, length-sum, block-end}
 use Rattle.code.specs.Code.{plus, divided, lower, generator, checks}
 use Rattle.blocks.specs.Blocks.{withChecks, block, Cell, sentOrder, inOrder, sent, sentPlace, gathered, gatheredAll, blockOffset, blockOf, dataOf}
+use Rattle.blocks.specs.Theorems.{DealGather, DataBack}
 use Rattle.blocks.proofs.Cuts.{cut, length-joined, part-joined}
-use Rattle.blocks.proofs.Order.{SentOnce, sent-once}
+use Rattle.blocks.proofs.Order.{sent-once}
 
 -- ---- as many checks as asked for
 
@@ -146,24 +147,29 @@ module _ (v level : ℕ) (lawful : Lawful v level) where
     unfolding sent inOrder
     length-sent = length-map _ (sentOrder v level) ∙ sent-once v level lawful .long
 
-    pub deal-gather : (b : ℕ) → b < blockCount v level → gathered v level (λ q. getD (sent v level codewords) q 0) b ≡ block v level codewords b
-    unfolding gathered
-    deal-gather b h =
-        map-upTo-same (λ p. getD (sent v level codewords) (sentPlace v level b p) 0) (λ p. getD (block v level codewords b) p 0) (blockLength v level b) (λ p l. sent-at b p h l)
-        ∙ ap (λ (n : ℕ). map (λ p. getD (block v level codewords b) p 0) (upTo n)) (sym (length-block b h))
-        ∙ list-upTo (block v level codewords b)
+-- ---- the theorems
 
-    pub data-back : dataOf v level (block v level codewords) ≡ codewords
-    unfolding dataOf block blockStart
-    data-back =
-        ap joined
-        (map-upTo-same _ (λ b. take (blockData v level b) (drop (sum b (blockData v level)) codewords)) (blockCount v level)
-        (λ b h. take-at _ _ (blockData v level b) (length-held b h)))
-        ∙ cut codewords (blockData v level) (blockCount v level)
-        ∙ take-all (sum (blockCount v level) (blockData v level)) codewords (omega (arith, data-sum v level lawful))
+pub deal-gather : DealGather
+unfolding gathered
+deal-gather v level lawful codewords long b h =
+    map-upTo-same (λ p. getD (sent v level codewords) (sentPlace v level b p) 0) (λ p. getD (block v level codewords b) p 0) (blockLength v level b)
+    (λ p l. sent-at v level lawful codewords long b p h l)
+    ∙ ap (λ (n : ℕ). map (λ p. getD (block v level codewords b) p 0) (upTo n)) (sym (length-block v level lawful codewords long b h))
+    ∙ list-upTo (block v level codewords b)
 
-    -- the data of what is gathered from what is sent is the data
-    pub data-through : dataOf v level (blockOf v level (gatheredAll v level (λ q. getD (sent v level codewords) q 0))) ≡ codewords
-    data-through =
-        data-same v level _ (block v level codewords) (λ b h. block-of-gathered v level (λ q. getD (sent v level codewords) q 0) b h ∙ deal-gather b h)
-        ∙ data-back
+pub data-back : DataBack
+unfolding dataOf block blockStart
+data-back v level lawful codewords long =
+    ap joined
+    (map-upTo-same _ (λ b. take (blockData v level b) (drop (sum b (blockData v level)) codewords)) (blockCount v level)
+    (λ b h. take-at _ _ (blockData v level b) (length-held v level lawful codewords long b h)))
+    ∙ cut codewords (blockData v level) (blockCount v level)
+    ∙ take-all (sum (blockCount v level) (blockData v level)) codewords (omega (arith, data-sum v level lawful))
+
+-- the data of what is gathered from what is sent is the data
+pub data-through : (v level : ℕ) → Lawful v level → (codewords : List ℕ) → length codewords ≡ dataCount v level
+    → dataOf v level (blockOf v level (gatheredAll v level (λ q. getD (sent v level codewords) q 0))) ≡ codewords
+data-through v level lawful codewords long =
+    data-same v level _ (block v level codewords)
+    (λ b h. block-of-gathered v level (λ q. getD (sent v level codewords) q 0) b h ∙ deal-gather v level lawful codewords long b h)
+    ∙ data-back v level lawful codewords long

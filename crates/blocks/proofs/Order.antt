@@ -13,6 +13,8 @@ use Rattle.basics.specs.Lists.{from, upTo, keep, joined}
 use Rattle.basics.proofs.Test.{both, all, at, grid}
 use Rattle.tables.specs.Tables.{totals, checkRows, blockRows, total, checkCount, blockCount, dataCount, shortLength, shortBlocks, blockData, blockLength, Lawful}
 use Rattle.blocks.specs.Blocks.{Cell, sentData, sentChecks, sentOrder, placeBy, sentPlace}
+use Rattle.blocks.specs.Theorems.{Sending}
+pub use Rattle.blocks.specs.Theorems.{Stood, SentOnce}
 
 -- both tests passed
 two : (a b : Bool) → T (both a b) → T a × T b
@@ -59,11 +61,6 @@ tested-passed : T (all 11 (λ v. all 4 (λ level. passed v level 0 (sentOrder v 
 unfolding from upTo keep joined totals checkRows blockRows total checkCount blockCount dataCount shortLength shortBlocks blockData blockLength sentData sentChecks sentOrder placeBy sentPlace stood passed
 tested-passed = tt
 
-pub record Stood (v level q : ℕ) (c : Cell) : Type 0 where
-  pub block : c .of < blockCount v level
-  pub inside : c .at < blockLength v level (c .of)
-  pub place : sentPlace v level (c .of) (c .at) ≡ q
-
 stood-at : (v level q : ℕ) (c : Cell) → T (stood v level q c) → Stood v level q c
 unfolding stood
 stood-at v level q c t =
@@ -85,15 +82,6 @@ passed-at v level q (c ∷ cs) t (suc k) h =
 
 -- ---- the theorem
 
-pub record SentOnce (v level : ℕ) : Type 0 where
-  -- as many codewords are sent as the version has
-  pub long : length (sentOrder v level) ≡ total v
-  -- codeword p of block b is sent at its place
-  pub inside : (b p : ℕ) → b < blockCount v level → p < blockLength v level b → sentPlace v level b p < total v
-  pub at : (b p : ℕ) → b < blockCount v level → p < blockLength v level b → getD (sentOrder v level) (sentPlace v level b p) (record { of = 0; at = 0 }) ≡ record { of = b; at = p }
-  -- and at each place one is sent
-  pub back : (q : ℕ) → q < total v → Stood v level q (getD (sentOrder v level) q (record { of = 0; at = 0 }))
-
 module _ (v level : ℕ) (lawful : Lawful v level) where
   here : T (passed v level 0 (sentOrder v level))
   here = grid 11 4 (λ v level. passed v level 0 (sentOrder v level)) tested-passed v level (omega arith) (omega arith)
@@ -105,21 +93,22 @@ module _ (v level : ℕ) (lawful : Lawful v level) where
       (at (blockCount v level) (λ b. all (blockLength v level b) (placed v level (sentOrder v level) b))
       (grid 11 4 (λ v level. allPlaced v level (sentOrder v level)) tested-placed v level (omega arith) (omega arith)) b hb) p hp
 
-  pub sent-once : SentOnce v level
-  unfolding placed none
-  sent-once =
-      let l : length (sentOrder v level) ≡ total v = omega (arith, passed-long v level 0 (sentOrder v level) here) in
-      record {
-        long = l;
-        inside = λ b p hb hp. ltb→lt _ _ (two (ltb (sentPlace v level b p) (total v)) _ (there b p hb hp) .0);
-        at = λ b p hb hp. is-cell b p _ (two (ltb (sentPlace v level b p) (total v)) _ (there b p hb hp) .1);
-        back = λ q h. rw zero-add at (passed-at v level 0 (sentOrder v level) here q (rw l h));
-      }
+pub sent-once : Sending
+unfolding placed none
+sent-once v level lawful =
+    let l : length (sentOrder v level) ≡ total v = omega (arith, passed-long v level 0 (sentOrder v level) (here v level lawful)) in
+    record {
+      long = l;
+      inside = λ b p hb hp. ltb→lt _ _ (two (ltb (sentPlace v level b p) (total v)) _ (there v level lawful b p hb hp) .0);
+      at = λ b p hb hp. is-cell b p _ (two (ltb (sentPlace v level b p) (total v)) _ (there v level lawful b p hb hp) .1);
+      back = λ q h. rw zero-add at (passed-at v level 0 (sentOrder v level) (here v level lawful) q (rw l h));
+    }
 
-  -- no two codewords share a place
-  pub place-only : (b p c q : ℕ) → b < blockCount v level → p < blockLength v level b → c < blockCount v level → q < blockLength v level c
-      → sentPlace v level b p ≡ sentPlace v level c q → (b ≡ c) × (p ≡ q)
-  place-only b p c q hb hp hc hq e =
-      let same : _≡_ {A = Cell} (record { of = b; at = p }) (record { of = c; at = q }) =
-      sym (sent-once .at b p hb hp) ∙ ap (λ (x : ℕ). getD (sentOrder v level) x (record { of = 0; at = 0 })) e ∙ sent-once .at c q hc hq in
-      (ap (λ (x : Cell). x .of) same, ap (λ (x : Cell). x .at) same)
+-- no two codewords share a place
+pub place-only : (v level : ℕ) → Lawful v level → (b p c q : ℕ) → b < blockCount v level → p < blockLength v level b → c < blockCount v level → q < blockLength v level c
+    → sentPlace v level b p ≡ sentPlace v level c q → (b ≡ c) × (p ≡ q)
+place-only v level lawful b p c q hb hp hc hq e =
+    let once = sent-once v level lawful in
+    let same : _≡_ {A = Cell} (record { of = b; at = p }) (record { of = c; at = q }) =
+    sym (once .at b p hb hp) ∙ ap (λ (x : ℕ). getD (sentOrder v level) x (record { of = 0; at = 0 })) e ∙ once .at c q hc hq in
+    (ap (λ (x : Cell). x .of) same, ap (λ (x : Cell). x .at) same)
