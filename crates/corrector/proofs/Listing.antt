@@ -1,6 +1,6 @@
 -- The suspected places, listed from the last to the first: what a turn of the walk adds, and the terms of the polynomial at the next locator.
 -- Assumes nothing.
-use mathlib.Core.Path.{_≡_, refl, sym, ap, ap₂, _∙_}
+use mathlib.Core.Path.{_≡_, refl, sym, ap, ap₂, subst, _∙_}
 use mathlib.Core.Logic.{_≢_, by-cases}
 use mathlib.Core.Bool.{Bool, true, false, not, cond, _||_}
 use mathlib.Core.List.{List, [], _∷_, _++_, append-assoc}
@@ -8,23 +8,20 @@ use Prim.Native.Nat.{ℕ, zero, suc, _+_, _-_, _≤_, _<_}
 use native.Mathlib.Numerals.{add-one, sub-one}
 use native.Mathlib.Decide.{decLt, ℕ-discrete}
 use native.Mathlib.Omega.{arith}
-use lib.Dec.{T, eqb}
-use lib.ListN.{length, getD, take, set, length-append, length-set}
+use lib.Bits.{bitXor, xor-zero-r}
+use lib.Dec.{T, eqb, ltb, ltb→lt}
+use lib.ListN.{length, getD, take, set, length-append, length-set, List·getD-eq-default}
 use lib.Seq.{take-suc-set, length-take-le, getD-set-same, getD-set-other}
-use Rattle.basics.proofs.Test.{same, same₁}
+use Rattle.basics.proofs.Test.{all, at, same, same₁}
+use Rattle.basics.proofs.Build.{build-get}
 use Rattle.field.specs.Field.{powN, dblN, mulN}
-use Rattle.field.proofs.Laws.{pow-lt, two-mul}
-use Rattle.field.proofs.Byte.{Byte, val, elt, elt-mul, val-elt}
-use Rattle.theory.proofs.Field.{Field}
-use Rattle.theory.proofs.Sum.{sum, pow}
+use Rattle.field.proofs.Laws.{pow-add}
+use Rattle.field.proofs.Byte.{val, elt, val-elt}
 use Rattle.theory.proofs.Run.{eval}
-use Rattle.theory.proofs.Algebra.{ring, ⊕-zero, zero-⊗, one-⊗, ⊗-one, ⊗-assoc, ⊗-comm, ⊗-left-comm, sum-cong}
 use Rattle.theory.proofs.Gf.{gf256, locators}
 use Rattle.corrector.specs.Lanes.{filled, timesPlus, poly}
 use Rattle.corrector.specs.Places.{picked, marked, suspect, Found, Noted}
-use Rattle.corrector.proofs.Rows.{Row, poly-times, poly-past, poly-zeros, filled-length}
-use Rattle.corrector.proofs.Erasing.{next-power}
-open Field gf256 using (_⊕_, _⊗_, 𝟘, 𝟙)
+use Rattle.corrector.proofs.Rows.{Row, filled-length, filled-at, zeros-at}
 
 pub picked-yes : (test : ℕ → Bool) (j : ℕ) → test j ≡ true → picked test (suc j) ≡ j ∷ picked test j
 unfolding picked
@@ -78,21 +75,6 @@ module _ {flags a : List ℕ} {j : ℕ} {at xs : List ℕ} {count : ℕ} (f : Fo
       old k h q =
           getD-set-other xs count k x 0 q ∙ f .located k (omega arith) ∙ ap (λ i. powN (length flags - suc i)) (sym (getD-set-other at count k j 0 q))
 
--- ---- the terms of the polynomial
-
-pow-⊗ : (x y : Byte) (k : ℕ) → pow gf256 (x ⊗ y) k ≡ pow gf256 x k ⊗ pow gf256 y k
-unfolding pow
-pow-⊗ x y zero = sym (⊗-one gf256 𝟙)
-pow-⊗ x y (suc k) = ap (λ z. x ⊗ y ⊗ z) (pow-⊗ x y k) ∙ ⊗-assoc gf256 x y _ ∙ ap (λ z. x ⊗ z) (⊗-left-comm gf256 y (pow gf256 x k) (pow gf256 y k)) ∙ sym (⊗-assoc gf256 x _ _)
-
-elt-dbl : (x : ℕ) → x < 256 → elt (dblN x) ≡ elt 2 ⊗ elt x
-elt-dbl x h = ap elt (sym (two-mul x h)) ∙ elt-mul 2 x (omega arith)
-
-elt-pow : (k : ℕ) → elt (powN k) ≡ pow gf256 (elt 2) k
-unfolding powN pow
-elt-pow zero = refl
-elt-pow (suc k) = elt-dbl (powN k) (pow-lt k) ∙ ap (λ z. elt 2 ⊗ z) (elt-pow k)
-
 -- 2 to the powers 0 to 31
 unfoldable pub powers : List ℕ
 powers =
@@ -102,35 +84,38 @@ powers-tested : T (same 32 (λ k. getD powers k 0) powN)
 unfolding powers powN
 powers-tested = tt
 
--- the terms of a at x
-abbrev pub Terms : (a : List ℕ) (x : ℕ) (t : List ℕ) → Type 0
-Terms a x t = (k : ℕ) → poly t k ≡ poly a k ⊗ pow gf256 (elt x) k
-
-pow-one : (k : ℕ) → pow gf256 𝟙 k ≡ 𝟙
-unfolding pow
-pow-one zero = refl
-pow-one (suc k) = one-⊗ gf256 _ ∙ pow-one k
-
-pub terms-start : (a : List ℕ) → Terms a 1 a
-terms-start a k = sym (ap (λ z. poly a k ⊗ z) (pow-one k) ∙ ⊗-one gf256 (poly a k))
-
-nothing : {x : Byte} → x ≡ 𝟘 → (y : Byte) → x ⊗ y ≡ 𝟘
-nothing e y = ap (λ x. x ⊗ y) e ∙ zero-⊗ gf256 y
-
-pub terms-step : (a t : List ℕ) (x : ℕ) → x < 256 → length a ≡ 32 → Row t → Terms a x t → Terms a (dblN x) (timesPlus t powers (filled 0))
+bytes-tested : T (all 32 (λ k. ltb (getD powers k 0) 256))
 unfolding powers
-terms-step a t x bx la rt e k =
-    poly-times t powers (filled 0) rt refl (filled-length 0) k
-    ∙ ap₂ (λ u v. u ⊗ poly powers k ⊕ v) (e k) (poly-zeros k)
-    ∙ ⊕-zero gf256 _
-    ∙ by-cases
-    (decLt k 32)
-    (λ h. ap (λ z. poly a k ⊗ pow gf256 (elt x) k ⊗ z) (ap elt (same₁ 32 (λ k. getD powers k 0) powN powers-tested k h) ∙ elt-pow k) ∙ ⊗-assoc gf256 _ _ _ ∙ ap (λ z. poly a k ⊗ z) (⊗-comm gf256 _ _ ∙ sym (pow-⊗ (elt 2) (elt x) k) ∙ ap (λ y. pow gf256 y k) (sym (elt-dbl x bx))))
-    (λ h. nothing (nothing (poly-past a la k (omega arith)) _) _ ∙ sym (nothing (poly-past a la k (omega arith)) _))
+bytes-tested = tt
 
-pub terms-value : (a t : List ℕ) (x v : ℕ) → Terms a x t → elt v ≡ sum gf256 32 (poly t) → elt v ≡ eval gf256 32 (poly a) (elt x)
-unfolding eval
-terms-value a t x v e p = p ∙ sum-cong gf256 32 (λ k l. e k)
+pub powers-row : Row powers
+unfolding powers
+powers-row = record {
+  long = refl;
+  bytes = λ k. by-cases (decLt k 32) (λ h. ltb→lt (getD powers k 0) 256 (at 32 (λ k. ltb (getD powers k 0) 256) bytes-tested k h)) (λ h. let e : getD powers k 0 ≡ 0 = List·getD-eq-default powers 0 {n = k} (omega arith) in omega arith);
+}
+
+-- the locators of the 32 places below top
+abbrev pub Located : (n top : ℕ) (xs : List ℕ) → Type 0
+Located n top xs = (i : ℕ) → i < 32 → getD xs i 0 ≡ powN (n - top + i)
+
+pub located-start : (n : ℕ) → Located n n powers
+located-start n i l = same₁ 32 (λ k. getD powers k 0) powN powers-tested i l ∙ ap powN (omega arith)
+
+-- 157 is 2 to the power 32
+stride : powN 32 ≡ 157
+unfolding powN
+stride = refl
+
+pub located-turn : (n top : ℕ) (xs : List ℕ) → 32 ≤ top → top ≤ n → Located n top xs → Located n (top - 32) (timesPlus xs (filled 157) (filled 0))
+unfolding timesPlus filled
+located-turn n top xs l m e i h =
+    build-get _ 32 i h
+    ∙ ap₂ (λ (x y : ℕ). bitXor (mulN (getD xs i 0) x) y) (filled-at 32 157 i h) (zeros-at 32 i)
+    ∙ xor-zero-r _
+    ∙ ap₂ mulN (e i h) (sym stride)
+    ∙ pow-add (n - top + i) 32
+    ∙ ap powN (omega arith)
 
 -- the test of a place by the code is the test of the paper
 pub tested : (flags a : List ℕ) (j x v : ℕ) → v < 256 → x ≡ powN (length flags - suc j) → elt v ≡ eval gf256 32 (poly a) (elt x) → suspect flags a j ≡ not (eqb (getD flags j 0) 0) || eqb v 0
@@ -147,17 +132,15 @@ found-start flags a = record {
   located = λ k h. absurd (omega arith);
 }
 
--- a turn of the walk
-module _ (flags a : List ℕ) (la : length a ≡ 32) where
-  pub listing-turn :
-      (t : List ℕ) (x j v y : ℕ) (u : List ℕ) (at xs : List ℕ) (count : ℕ) (at′ xs′ : List ℕ) (count′ : ℕ) →
-      0 < j → j ≤ length flags → Row t → Terms a x t → x < 256 → v < 256 → x ≡ powN (length flags - j) → elt v ≡ sum gf256 32 (poly t) → y ≡ dblN x →
-      u ≡ timesPlus t powers (filled 0) → Noted (getD flags (j - 1) 0) v (j - 1) x at xs count at′ xs′ count′ → Found flags a j at xs count →
-      Terms a y u × (y ≡ powN (length flags - (j - 1))) × Found flags a (j - 1) at′ xs′ count′
-  listing-turn t x zero v y u at xs count at′ xs′ count′ p l rt et bx bv e q g f n i = absurd (omega arith)
-  listing-turn t x (suc j) v y u at xs count at′ xs′ count′ p l rt et bx bv e q g f n i =
-      rw (f, g, sub-one (suc j)) (
-        terms-step a t x bx la rt et,
-        next-power (length flags) j x (omega arith) e,
-        (rw (sub-one (suc j)) at n) flags a (omega arith) (tested flags a j x v bv e (terms-value a t x v et q)) e i,
-      )
+-- one place of a group more
+pub grouped-turn :
+    (flags vs xs : List ℕ) (top many i : ℕ) (at₀ ys₀ : List ℕ) (count₀ : ℕ) (at ys : List ℕ) (count : ℕ) (at′ ys′ : List ℕ) (count′ : ℕ) →
+    top ≤ length flags → many ≤ top → i < many → getD vs i 0 < 256 → Noted (getD flags (top - 1 - i) 0) (getD vs i 0) (top - 1 - i) (getD xs i 0) at ys count at′ ys′ count′ →
+    ((a : List ℕ) → ((i : ℕ) → i < many → poly vs i ≡ eval gf256 32 (poly a) (poly xs i)) → ((i : ℕ) → i < many → getD xs i 0 ≡ powN (length flags - (top - i))) → Found flags a top at₀ ys₀ count₀ → Found flags a (top - i) at ys count) →
+    (a : List ℕ) → ((i : ℕ) → i < many → poly vs i ≡ eval gf256 32 (poly a) (poly xs i)) → ((i : ℕ) → i < many → getD xs i 0 ≡ powN (length flags - (top - i))) → Found flags a top at₀ ys₀ count₀ → Found flags a (top - (i + 1)) at′ ys′ count′
+grouped-turn flags vs xs top many i at₀ ys₀ count₀ at ys count at′ ys′ count′ l m h bv n before a ev ex f =
+    let this : top - i ≡ suc (top - 1 - i) = omega arith in
+    let next : top - 1 - i ≡ top - (i + 1) = omega arith in
+    let x : getD xs i 0 ≡ powN (length flags - suc (top - 1 - i)) = ex i h ∙ ap (λ (k : ℕ). powN (length flags - k)) this in
+    subst (λ (k : ℕ). Found flags a k at′ ys′ count′) next
+    (n flags a (omega arith) (tested flags a (top - 1 - i) (getD xs i 0) (getD vs i 0) bv x (ev i h)) x (subst (λ (k : ℕ). Found flags a k at ys count) this (before a ev ex f)))

@@ -49,6 +49,19 @@ Noted flag v j x at xs count at′ xs′ count′ =
     (flags a : List ℕ) → j < length flags → suspect flags a j ≡ not (eqb flag 0) || eqb v 0 → x ≡ powN (length flags - suc j) →
     Found flags a (suc j) at xs count → Found flags a j at′ xs′ count′
 
+-- the lesser of a number and 32
+pub record Least (top r : ℕ) : Type 0 where
+  pub small : r ≤ 32
+  pub within : r ≤ top
+  pub full : r < top → r ≡ 32
+  pub some : 0 < top → 0 < r
+
+-- many places below top are walked, from the greatest down: listed for any polynomial whose values at their locators xs are the vs
+abbrev pub Grouped : (flags vs xs : List ℕ) (top many : ℕ) (at ys : List ℕ) (count : ℕ) (at′ ys′ : List ℕ) (count′ : ℕ) → Type 0
+Grouped flags vs xs top many at ys count at′ ys′ count′ =
+    (a : List ℕ) → ((i : ℕ) → i < many → poly vs i ≡ eval gf256 32 (poly a) (poly xs i)) → ((i : ℕ) → i < many → getD xs i 0 ≡ powN (length flags - (top - i))) →
+    Found flags a top at ys count → Found flags a (top - many) at′ ys′ count′
+
 -- a place is as the word has it, or it is one of the first count of the list, and the value given for it is added
 pub record Mended (word at values : List ℕ) (count : ℕ) (r : List ℕ) : Type 0 where
   pub each :

@@ -15,7 +15,7 @@ ghost use Rattle.theory.proofs.Gf.{gf256};
 ghost use Rattle.corrector.specs.Lanes.{filled, timesPlus, lowered, late, raised, poly, Running};
 ghost use Rattle.code.specs.Code.{unreadable, differing};
 ghost use Rattle.corrector.specs.Correct.{Asked, Proposed, First, Tested, Corrected};
-ghost use Rattle.corrector.specs.Places.{Erased, Found, Noted, Mended, Magnitudes};
+ghost use Rattle.corrector.specs.Places.{Erased, Found, Noted, Grouped, Least, Mended, Magnitudes};
 
 // a b + c, lane by lane.
 fn times_plus(a: [u8; 32], b: [u8; 32], c: [u8; 32]) -> [u8; 32]
@@ -212,7 +212,7 @@ struct Listed {
 // The places, and the place j with the locator x where it is unreadable or the polynomial is 0 there.
 fn noted(found: Listed, flag: u8, v: u8, j: usize, x: u8) -> Listed
     requires { ⌜ (j < 255) × (found .count ≤ 31) ⌝ }
-    ensures { λ r. ⌜ Noted flag v j x (found .at) (found .xs) (found .count) (r .at) (r .xs) (r .count) ⌝ }
+    ensures { λ r. ⌜ (r .count ≤ 31) × Noted flag v j x (found .at) (found .xs) (found .count) (r .at) (r .xs) (r .count) ⌝ }
 {
     if flag == 0 {
         if v != 0 {
@@ -270,29 +270,56 @@ const POWERS: [u8; 32] = [
     192,
 ];
 
-// The unreadable places and those where the polynomial a is 0.
-fn suspected(flags: &[u8], a: [u8; 32]) -> Listed
-    requires { ⌜ length (now flags) ≤ 255 ⌝ }
+// The places below top from the greatest down, many of them, with the locators xs and the values vs of a polynomial there.
+fn grouped(
+    found: Listed,
+    flags: &[u8],
+    vs: [u8; 32],
+    xs: [u8; 32],
+    top: usize,
+    many: usize,
+) -> Listed
+    requires { ⌜ (found .count ≤ 31) × (length (now flags) ≤ 255) × (top ≤ length (now flags)) × (many ≤ top) × (many ≤ 32) ⌝ }
+    ensures { λ r. ⌜ Grouped (now (flags .entry)) vs xs top many (found .at) (found .xs) (found .count) (r .at) (r .xs) (r .count) ⌝ }
+{
+    let mut list = found;
+    let mut i: usize = 0;
+    while i < many {
+        let j = top - 1 - i;
+        list = noted(list, flags[j], vs[i], j, xs[i]);
+        i += 1;
+    }
+    list
+}
+
+// The lesser of top and 32.
+fn least(top: usize) -> usize
+    ensures { λ r. ⌜ Least top r ⌝ }
+{
+    if top < 32 { top } else { 32 }
+}
+
+// The unreadable places and those where the polynomial a, of at most m coefficients, is 0: 32 places at a time, from the last place down.
+fn suspected(flags: &[u8], a: [u8; 32], m: usize) -> Listed
+    requires { ⌜ (length (now flags) ≤ 255) × (m ≤ 32) × Below gf256 m (poly a) ⌝ }
     ensures { λ r. ⌜ Found (now (flags .entry)) a 0 (r .at) (r .xs) (r .count) ⌝ }
 {
-    let at: [u8; 32] = [0; 32];
-    let xs: [u8; 32] = [0; 32];
     let zeros: [u8; 32] = [0; 32];
-    let powers = POWERS;
+    let stride: [u8; 32] = [157; 32];
     let mut found = Listed {
-        at: at,
-        xs: xs,
+        at: zeros,
+        xs: zeros,
         count: 0,
     };
-    let mut terms = a;
-    let mut x: u8 = 1;
-    let mut j: usize = flags.len();
-    while 0 < j {
-        j -= 1;
-        found = noted(found, flags[j], total(terms), j, x);
-        let next = times_plus(terms, powers, zeros);
-        terms = next;
-        x = field::dbl(x);
+    let mut xs = POWERS;
+    let mut top: usize = flags.len();
+    while 0 < top {
+        let many = least(top);
+        let vs = values(a, m, xs);
+        found = grouped(found, flags, vs, xs, top, many);
+        let next = times_plus(xs, stride, zeros);
+        xs = next;
+        top -= many;
     }
     found
 }
@@ -435,7 +462,8 @@ fn proposed(word: &[u8], flags: &[u8], s: [u8; 32], n: usize, e: usize) -> [u8; 
     let left = erased(s, flags);
     let st = run(left, n - e);
     let a = st.a;
-    let found = suspected(flags, a);
+    let l = st.l;
+    let found = suspected(flags, a, l + 1);
     let count = found.count;
     if n < count {
         return copied(word);

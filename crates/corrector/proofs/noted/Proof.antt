@@ -2,6 +2,7 @@
 use mathlib.Core.Path.{_≡_, refl, _∙_}
 use mathlib.Core.Logic.{⊎-elim}
 use mathlib.Core.Bool.{true, not, _||_}
+use native.Mathlib.Omega.{arith}
 use lib.Dec.{eqb}
 use borrow.Author.Tests.{eq-eqb, ne-eqb}
 use Rattle.corrector.proofs.Listing.{found-pass, found-full, found-more}
@@ -12,10 +13,10 @@ use Rattle.corrector.proofs.noted.Reads as reads
 use Rattle.corrector.proofs.noted.Lts as lts
 
 returns : tie.Need-returns
-returns c = λ flags a l e p f. found-pass f (e ∙ rw (eq-eqb _ _ (c .before .if1 .taken), ne-eqb _ _ (c .if2 .taken)))
+returns c = (omega arith, λ flags a l e p f. found-pass f (e ∙ rw (eq-eqb _ _ (c .before .if1 .taken), ne-eqb _ _ (c .if2 .taken))))
 
 returns-2 : tie.Need-returns-2
-returns-2 c = λ flags a l e p f. found-full f (c .if3 .taken)
+returns-2 c = (omega arith, λ flags a l e p f. found-full f (c .if3 .taken))
 
 cast-at : tie.Need-cast-at
 cast-at c = search needs
@@ -34,7 +35,7 @@ returns-3 c =
     let join = c .before .before .before in
     let start = join .before in
     let t : not (eqb (start .args .flag) 0) || eqb (start .args .v) 0 ≡ true = ⊎-elim (λ w. rw (eq-eqb _ _ (w .0 .taken), eq-eqb _ _ (w .1 .left))) (λ w. rw (ne-eqb _ _ (w .left))) (join .if1 .came) in
-    λ flags a l e p f. found-more f (start .args .x) (e ∙ t) (c .before .before .if3 .left) p
+    (omega (arith, start .pre .1, c .before .before .if3 .left), λ flags a l e p f. found-more f (start .args .x) (e ∙ t) (c .before .before .if3 .left) p)
 
 pub noted-spec : {M : Type 1} → statement M
 noted-spec =

@@ -1,5 +1,6 @@
 -- `corrector::proposed` meets its contract. Assumes nothing.
 use mathlib.Core.Path.{sym}
+use native.Mathlib.Numerals.{add-one}
 use native.Mathlib.Omega.{arith}
 use mir.Val.{Fits}
 use mir.Syntax.{w8}
@@ -46,8 +47,11 @@ sub-run c = search needs
 run-requires : tie.Need-run-requires
 run-requires c κs = search needs
 
+add-suspected : tie.Need-add-suspected
+add-suspected c = search needs
+
 suspected-requires : tie.Need-suspected-requires
-suspected-requires c κs = search needs
+suspected-requires c κs = (omega arith, omega arith, rw add-one (c .before .run .ensures .0 .monic .below))
 
 copied-requires : tie.Need-copied-requires
 copied-requires c κs = search needs
@@ -77,6 +81,7 @@ proposed-spec =
     erased-requires
     sub-run
     run-requires
+    add-suspected
     suspected-requires
     copied-requires
     returns

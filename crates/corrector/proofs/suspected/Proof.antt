@@ -1,85 +1,80 @@
 -- `corrector::suspected` meets its contract. Assumes nothing.
 use borrow.Author.Needs.{needs}
-use Prim.Native.Nat.{_-_, _≤_, _<_}
-use mathlib.Core.Path.{_≡_, refl, sym, ap, _∙_}
+use Prim.Native.Nat.{ℕ, _+_, _-_, _≤_, _<_}
+use mathlib.Core.Path.{_≡_, refl, sym, ap, subst, _∙_}
 use native.Mathlib.Omega.{arith}
 use mir.Val.{Fits}
 use mir.Syntax.{w8}
 use lib.ListN.{length, getD}
 use Rattle.field.specs.Field.{powN}
-use Rattle.corrector.specs.Lanes.{filled}
-use Rattle.corrector.specs.Places.{picked, Found}
+use Rattle.corrector.specs.Lanes.{filled, timesPlus}
+use Rattle.corrector.specs.Places.{Found}
 use Rattle.corrector.proofs.Rows.{Row}
-use Rattle.corrector.proofs.Erasing.{power-start}
-use Rattle.corrector.proofs.Listing.{Terms, terms-start, found-start, powers, listing-turn}
+use Rattle.corrector.proofs.Listing.{Located, located-start, located-turn, found-start, powers, powers-row}
 use Rattle.corrector.proofs.suspected.Statement.{statement}
 use Rattle.corrector.proofs.suspected.Tie as tie
 use Rattle.corrector.proofs.suspected.Reads as reads
 use Rattle.corrector.proofs.suspected.Lts as lts
-use Rattle.corrector.proofs.noted.Reads as noted-reads
+use Rattle.corrector.proofs.grouped.Reads as grouped-reads
+use Rattle.corrector.proofs.least.Reads as least-reads
 use Rattle.corrector.proofs.times_plus.Reads as times-plus-reads
-use Rattle.corrector.proofs.total.Reads as total-reads
-use Rattle.field.proofs.dbl.Reads as dbl-reads
+use Rattle.corrector.proofs.values.Reads as values-reads
 
 abbrev Inv-loop : tie.InvT-loop
-Inv-loop flags zeros powers found₀ terms₀ x₀ j₀ found terms x j = Row terms × Terms terms₀ x terms × (x < 256) × (j ≤ length flags) × (x ≡ powN (length flags - j)) × Found flags terms₀ j (found .at) (found .xs) (found .count)
+Inv-loop flags a m zeros stride found₀ xs₀ top₀ found xs top = Row xs × (top ≤ length flags) × (0 < top → Located (length flags) top xs) × Found flags a top (found .at) (found .xs) (found .count)
 
 abbrev μ-loop : tie.MeasureT-loop
-μ-loop flags zeros powers found₀ terms₀ x₀ j₀ found terms x j = j
+μ-loop flags a m zeros stride found₀ xs₀ top₀ found xs top = top
 
 loop-holds : tie.Need-loop-holds Inv-loop μ-loop
-unfolding filled
-loop-holds c =
-    let a = c .before .args .a in
-    (record { long = search needs; bytes = λ h. let f : Fits w8 (getD a h 0) = search needs in omega (arith, f) }, terms-start a, omega arith, omega arith, power-start _, found-start _ a)
+unfolding filled powers
+loop-holds c = (powers-row, omega arith, λ h. located-start _, found-start _ _)
 
-sub-j : tie.Need-sub-j Inv-loop μ-loop
-sub-j c = search needs
+least-requires : tie.Need-least-requires Inv-loop μ-loop
+least-requires c κs = search needs
 
-shared-slice-read-noted : tie.Need-shared-slice-read-noted Inv-loop μ-loop
-shared-slice-read-noted c = search needs
+values-requires : tie.Need-values-requires Inv-loop μ-loop
+values-requires c κs = let start = c .before .before .before .before in (start .pre .1, start .pre .2)
 
-total-requires : tie.Need-total-requires Inv-loop μ-loop
-total-requires c κs = search needs
-
-noted-requires : tie.Need-noted-requires Inv-loop μ-loop
-noted-requires c κs = search needs
+grouped-requires : tie.Need-grouped-requires Inv-loop μ-loop
+grouped-requires c κs =
+    let l = c .before .before .before .loop in
+    let many = c .before .least .ensures in
+    (l .inv .3 .small, c .before .before .before .before .before .pre .0, l .inv .1, many .within, many .small)
 
 times-plus-requires : tie.Need-times-plus-requires Inv-loop μ-loop
 times-plus-requires c κs = search needs
 
-dbl-requires : tie.Need-dbl-requires Inv-loop μ-loop
-dbl-requires c κs = search needs
+sub-top : tie.Need-sub-top Inv-loop μ-loop
+sub-top c = c .before .before .before .least .ensures .within
 
 loop-less : tie.Need-loop-less Inv-loop μ-loop
-loop-less c = search needs
+loop-less c = let many = c .before .before .before .least .ensures in omega (arith, many .within, many .some (omega arith))
 
 loop-again : tie.Need-loop-again Inv-loop μ-loop
-unfolding filled powers
+unfolding filled
 loop-again c =
-    let l = c .before .before .before .before .before .before .loop in
-    let start = c .before .before .before .before .before .before .before .before in
-    let found = c .before .before .noted .result in
-    let u = c .before .times-plus .result in
-    let v = c .before .before .before .total .result in
-    let bv : Fits w8 v = search needs in
-    let by : Fits w8 (c .dbl .result) = search needs in
-    let turn =
-    listing-turn (start .args .flags .now) (start .args .a) (search needs) (l .terms) (l .x) (l .j) v (c .dbl .result) u (l .found .at) (l .found .xs) (l .found .count) (found .at) (found .xs) (found .count)
-    (omega arith) (l .inv .3) (l .inv .0) (l .inv .1) (l .inv .2) (omega (arith, bv)) (l .inv .4) (c .before .before .before .total .ensures) (c .dbl .ensures) (c .before .times-plus .ensures) (c .before .before .noted .ensures) (l .inv .5) in (
-      record { long = search needs; bytes = λ h. let f : Fits w8 (getD u h 0) = search needs in omega (arith, f) },
-      turn .0,
-      omega (arith, by),
+    let l = c .before .before .before .before .before .loop in
+    let start = c .before .before .before .before .before .before .before in
+    let flags = start .args .flags .now in
+    let least = c .before .before .before .least in
+    let here : Located (length flags) (l .top) (l .xs) = l .inv .2 (omega arith) in
+    let t = c .times-plus .result in (
+      record { long = search needs; bytes = λ h. let f : Fits w8 (getD t h 0) = search needs in omega (arith, f) },
       omega arith,
-      turn .1,
-      turn .2,
+      λ h i m.
+          let full : least .result ≡ 32 = least .ensures .full (omega arith) in
+          ap (λ u. getD u i 0) (c .times-plus .ensures) ∙ located-turn (length flags) (l .top) (l .xs) (omega arith) (l .inv .1) here i m ∙ ap (λ (k : ℕ). powN (length flags - (l .top - k) + i)) (sym full),
+      c .before .grouped .ensures (start .args .a) (λ i m. c .before .before .values .ensures i (omega (arith, least .ensures .small)))
+          (λ i m. here i (omega (arith, least .ensures .small)) ∙ ap powN (omega (arith, least .ensures .within, l .inv .1)))
+          (l .inv .3),
     )
 
 returns : tie.Need-returns Inv-loop μ-loop
 returns c =
     let l = c .before .loop in
-    let z : l .j ≡ 0 = omega arith in
-    rw z at (l .inv .5)
+    let z : l .top ≡ 0 = omega arith in
+    rw z at (l .inv .3)
 
 pub suspected-spec : {M : Type 1} → statement M
 suspected-spec =
@@ -88,12 +83,11 @@ suspected-spec =
     Inv-loop
     μ-loop
     loop-holds
-    sub-j
-    shared-slice-read-noted
-    total-requires
-    noted-requires
+    least-requires
+    values-requires
+    grouped-requires
     times-plus-requires
-    dbl-requires
+    sub-top
     loop-less
     loop-again
     returns)
