@@ -85,14 +85,11 @@ fn window(m: &[u8], start: usize, stride: usize) -> [u8; 11]
     w
 }
 
-// What the window at start adds. In both patterns modules 4 and 6 are dark and 9 is light: a window that differs there is neither.
+// What the window at start adds. In both patterns module 6 is dark and 9 is light: a window that differs there is neither.
 fn window_score(m: &[u8], start: usize, stride: usize) -> u32
     requires { ⌜ (stride ≤ 64) × (start + 10 * stride < length (now m)) ⌝ }
     ensures { λ r. ⌜ r ≡ windowAt (now (m .entry)) start stride ⌝ }
 {
-    if m[start + 4 * stride] != 1 {
-        return 0;
-    }
     if m[start + 6 * stride] != 1 {
         return 0;
     }
@@ -105,7 +102,7 @@ fn window_score(m: &[u8], start: usize, stride: usize) -> u32
     0
 }
 
-// What the windows of a line add. In both patterns module 5 is light.
+// What the windows of a line add. In both patterns module 5 is light and 4 is dark.
 fn line_windows(m: &[u8], start: usize, stride: usize, n: usize) -> u32
     requires { ⌜ (stride ≤ 64) × ((10 ≤ n) × ((n ≤ 64) × (start + n * stride < length (now m) + stride))) ⌝ }
     ensures { λ r. ⌜ r ≡ paper.windows (line (now (m .entry)) start stride n) ⌝ }
@@ -115,7 +112,9 @@ fn line_windows(m: &[u8], start: usize, stride: usize, n: usize) -> u32
     let mut left = n - 10;
     while 0 < left {
         if m[at + 5 * stride] == 0 {
-            score += window_score(m, at, stride);
+            if m[at + 4 * stride] == 1 {
+                score += window_score(m, at, stride);
+            }
         }
         at += stride;
         left -= 1;

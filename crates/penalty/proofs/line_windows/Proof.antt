@@ -33,8 +33,10 @@ small c = rw (c .window-score .ensures) (window-le _ _ _)
 added : (c : tie.Joined1 Inv-loop μ-loop) → c .if1 .score ≡ c .before .before .before .loop .score + windowAt (c .before .before .before .before .before .args .m .now) (c .before .before .before .loop .at) (c .before .before .before .before .before .args .stride)
 unfolding patterns
 added c =
-    ⊎-elim (λ w. w .2 ∙ ap (λ (x : ℕ). c .before .before .before .loop .score + x) (w .1 .ensures))
-    (λ w. w .1 ∙ sym (add-zero _) ∙ ap (λ (x : ℕ). c .before .before .before .loop .score + x) (sym (window-off _ _ _ 5 0 (omega arith) refl refl (w .0 .left))))
+    let plus : ℕ → ℕ = λ x. c .before .before .before .loop .score + x in
+    ⊎-elim (λ w. w .4 ∙ ap plus (w .3 .ensures))
+    (⊎-elim (λ w. w .3 ∙ sym (add-zero _) ∙ ap plus (sym (window-off _ _ _ 4 1 (omega arith) refl refl (w .2 .left))))
+    (λ w. w .1 ∙ sym (add-zero _) ∙ ap plus (sym (window-off _ _ _ 5 0 (omega arith) refl refl (w .0 .left)))))
     (c .if1 .came)
 
 sub-left : tie.Need-sub-left Inv-loop μ-loop
@@ -57,8 +59,17 @@ add-if1 c = omega arith
 shared-slice-read-if1 : tie.Need-shared-slice-read-if1 Inv-loop μ-loop
 shared-slice-read-if1 c = omega arith
 
+mul-if2 : tie.Need-mul-if2 Inv-loop μ-loop
+mul-if2 c = omega arith
+
+add-if2 : tie.Need-add-if2 Inv-loop μ-loop
+add-if2 c = omega arith
+
+shared-slice-read-if2 : tie.Need-shared-slice-read-if2 Inv-loop μ-loop
+shared-slice-read-if2 c = omega arith
+
 window-score-requires : tie.Need-window-score-requires Inv-loop μ-loop
-window-score-requires c κs = omega (arith, stride-less (c .before .before .before .loop .left) (c .before .before .before .before .before .args .stride) (omega arith))
+window-score-requires c κs = omega (arith, stride-less (c .before .before .before .before .before .loop .left) (c .before .before .before .before .before .before .before .args .stride) (omega arith))
 
 add-score : tie.Need-add-score Inv-loop μ-loop
 add-score c = omega (arith, small c)
@@ -97,6 +108,9 @@ line-windows-spec =
     mul-if1
     add-if1
     shared-slice-read-if1
+    mul-if2
+    add-if2
+    shared-slice-read-if2
     window-score-requires
     add-score
     add-at

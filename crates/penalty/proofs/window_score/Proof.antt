@@ -20,7 +20,7 @@ shared-slice-read-if1 c = search needs
 
 returns : tie.Need-returns
 unfolding patterns
-returns c = sym (window-off _ _ _ 4 1 (omega arith) refl refl (c .if1 .taken))
+returns c = sym (window-off _ _ _ 6 1 (omega arith) refl refl (c .if1 .taken))
 
 mul-if2 : tie.Need-mul-if2
 mul-if2 c = search needs
@@ -33,20 +33,7 @@ shared-slice-read-if2 c = search needs
 
 returns-2 : tie.Need-returns-2
 unfolding patterns
-returns-2 c = sym (window-off _ _ _ 6 1 (omega arith) refl refl (c .if2 .taken))
-
-mul-if3 : tie.Need-mul-if3
-mul-if3 c = search needs
-
-add-if3 : tie.Need-add-if3
-add-if3 c = search needs
-
-shared-slice-read-if3 : tie.Need-shared-slice-read-if3
-shared-slice-read-if3 c = search needs
-
-returns-3 : tie.Need-returns-3
-unfolding patterns
-returns-3 c = sym (window-off _ _ _ 9 0 (omega arith) refl refl (c .if3 .taken))
+returns-2 c = sym (window-off _ _ _ 9 0 (omega arith) refl refl (c .if2 .taken))
 
 window-requires : tie.Need-window-requires
 window-requires c κs = search needs
@@ -54,13 +41,13 @@ window-requires c κs = search needs
 finder-like-requires : tie.Need-finder-like-requires
 finder-like-requires c κs = search needs
 
+returns-3 : tie.Need-returns-3
+unfolding windowAt
+returns-3 c = rw (ap finderLike (sym (c .before .before .window .ensures)) ∙ sym (c .before .finder-like .ensures) ∙ c .if3 .taken)
+
 returns-4 : tie.Need-returns-4
 unfolding windowAt
-returns-4 c = rw (ap finderLike (sym (c .before .before .window .ensures)) ∙ sym (c .before .finder-like .ensures) ∙ c .if4 .taken)
-
-returns-5 : tie.Need-returns-5
-unfolding windowAt
-returns-5 c = rw (ap finderLike (sym (c .before .before .window .ensures)) ∙ sym (c .before .finder-like .ensures) ∙ c .if4 .left)
+returns-4 c = rw (ap finderLike (sym (c .before .before .window .ensures)) ∙ sym (c .before .finder-like .ensures) ∙ c .if3 .left)
 
 pub window-score-spec : {M : Type 1} → statement M
 window-score-spec =
@@ -74,11 +61,7 @@ window-score-spec =
     add-if2
     shared-slice-read-if2
     returns-2
-    mul-if3
-    add-if3
-    shared-slice-read-if3
-    returns-3
     window-requires
     finder-like-requires
-    returns-4
-    returns-5)
+    returns-3
+    returns-4)
