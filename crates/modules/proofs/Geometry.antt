@@ -1,4 +1,4 @@
--- The layout's laws, read off the computed tests: `placed-once`, `order-length`, `word-places`, that words have places of their own, and
+-- The layout's laws, read off the computed tests: `placement`, that words have places of their own, and
 -- what stands at each data module and each word's place of a drawn symbol.
 -- Assumes nothing.
 use mathlib.Core.Path.{_≡_, refl, sym, ap, ap₂, subst, _∙_}
@@ -11,7 +11,7 @@ use native.Mathlib.Omega.{arith}
 use lib.Bits.{bitXor}
 use lib.Dec.{T, T-not, eqb, leb, ltb, eqb→eq, ltb→lt}
 use lib.ListN.{length, getD}
-use Rattle.basics.specs.Bits.{bitOf, byteBits}
+use Rattle.basics.specs.Bits.{byteBits}
 use Rattle.basics.specs.Lists.{upTo, placeIn, AtMost}
 use Rattle.basics.specs.Sums.{one}
 use Rattle.basics.proofs.Bits.{byteBits-le, bit-le}
@@ -21,7 +21,7 @@ use Rattle.basics.proofs.Test.{all, at, grid, cube, both, either, either-cases}
 use Rattle.tables.specs.Tables.{side, total, surplus}
 use Rattle.words.specs.Words.{formatWord, formatBits, versionWord}
 use Rattle.modules.specs.Modules.{Module, Format, Version, Finder, Timing, Alignment, Dark, Data, remains, colour, finder, finderColour, timing, alignment, copyAt, wordModule, moduleOf, order, walk, step, met, fill, maskNumbers, flips, isData, formatPlaces, versionPlaces, moduleAt, symbol}
-use Rattle.modules.specs.Geometry.{PlacedOnce, WordPlaces, moduleOn}
+use Rattle.modules.specs.Geometry.{PlacedOnce, WordPlaces, Placement, Filled, FormatDrawn, VersionDrawn, moduleOn}
 use Rattle.modules.proofs.Kept.{not-both, count, nth, rank, nth-lt, nth-passes, rank-nth, rank-lt, nth-rank, length-keep, keep-nth, fill-at, fill-le}
 use Rattle.modules.proofs.Tests.{versions, at-version, both-left, both-right, there, walk-tested, back, step-tested, six-tested, order-tested, isFormat, isVersion, formatThere, versionThere, format-tested, version-tested}
 
@@ -232,6 +232,9 @@ module _ (v : ℕ) (least : 1 ≤ v) (most : v ≤ 10) where
       ∙ ap (rank (met v)) (walk-once (nth (met v) j) (nth (met v) k) (nth-step j hj) (nth-step k hk) (sym (order-at j hj) ∙ e ∙ order-at k hk))
       ∙ nth-back k hk
 
+  pub order-length : length (order v) ≡ 8 * total v + surplus v
+  order-length = eqb→eq _ _ (at-version (λ v. eqb (length (order v)) (8 * total v + surplus v)) order-tested v least most)
+
   pub placed-once : PlacedOnce v
   placed-once =
       record {
@@ -239,11 +242,9 @@ module _ (v : ℕ) (least : 1 ≤ v) (most : v ≤ 10) where
         data-only = λ k h. rw (order-at k h) (nth-data k h);
         all = order-all;
         once = order-once;
+        count = order-length;
         back = walk-back;
       }
-
-  pub order-length : length (order v) ≡ 8 * total v + surplus v
-  order-length = eqb→eq _ _ (at-version (λ v. eqb (length (order v)) (8 * total v + surplus v)) order-tested v least most)
 
   -- ---- the words' places
 
@@ -298,35 +299,38 @@ module _ (v : ℕ) (least : 1 ≤ v) (most : v ≤ 10) where
         (fill-le (met v) (byteBits cs) (step (side v) (p / side v) (p % side v)) (at-any 1 (byteBits cs) (byteBits-le cs)))
         (flips-le mask (p / side v) (p % side v)))
 
-    -- bit k of the codewords, surplus included, stands at data module k, flipped by the mask
-    pub filled : (k : ℕ) → k < length (order v)
-        → getD (symbol v level mask cs) (getD (order v) k 0) 0
-        ≡ bitXor (getD (byteBits cs) k 0) (flips mask (getD (order v) k 0 / side v) (getD (order v) k 0 % side v))
-    unfolding moduleAt isData
-    filled k h =
-        let s = side v in
-        let j = nth (met v) k in
-        let p = walk s j in
-        let bit : getD (fill (met v) (byteBits cs)) (step s (p / s) (p % s)) 0 ≡ getD (byteBits cs) k 0 =
-        ap (λ (j : ℕ). getD (fill (met v) (byteBits cs)) j 0) (walk-back j (nth-step k h))
-        ∙ fill-at (met v) (byteBits cs) j (nth-passes (met v) k (rw order-count at h))
-        ∙ ap (λ (k : ℕ). getD (byteBits cs) k 0) (nth-back k h) in
-        rw (order-at k h)
-        (symbol-at p (walk-inside j (nth-step k h))
-        ∙ ap (λ (m : Module). colour v level mask m (getD (fill (met v) (byteBits cs)) (step s (p / s) (p % s)) 0) (flips mask (p / s) (p % s))) (data-module (moduleOn v p) (nth-data k h))
-        ∙ ap (λ (b : ℕ). bitXor b (flips mask (p / s) (p % s))) bit)
+-- ---- the theorems
 
-    -- each listed place of a word has its bit's colour
-    pub format-drawn : (copy b : ℕ) → copy < 2 → b < 15 → getD (symbol v level mask cs) (getD (formatPlaces v copy) b 0) 0 ≡ bitOf (formatWord (formatBits level mask)) b
-    unfolding moduleAt
-    format-drawn copy b hc hb =
-        let p = getD (formatPlaces v copy) b 0 in
-        symbol-at p (word-places .format-inside copy b hc hb)
-        ∙ ap (λ (m : Module). colour v level mask m (getD (fill (met v) (byteBits cs)) (step (side v) (p / side v) (p % side v)) 0) (flips mask (p / side v) (p % side v))) (word-places .formats copy b hc hb)
+pub placement : Placement
+placement v least most = (placed-once v least most, word-places v least most)
 
-    pub version-drawn : (copy b : ℕ) → 7 ≤ v → copy < 2 → b < 18 → getD (symbol v level mask cs) (getD (versionPlaces v copy) b 0) 0 ≡ bitOf (versionWord v) b
-    unfolding moduleAt
-    version-drawn copy b h hc hb =
-        let p = getD (versionPlaces v copy) b 0 in
-        symbol-at p (word-places .version-inside copy b h hc hb)
-        ∙ ap (λ (m : Module). colour v level mask m (getD (fill (met v) (byteBits cs)) (step (side v) (p / side v) (p % side v)) 0) (flips mask (p / side v) (p % side v))) (word-places .versions copy b h hc hb)
+-- bit k of the codewords, surplus included, stands at data module k, flipped by the mask
+pub filled : Filled
+unfolding moduleAt isData
+filled v least most level mask cs k h =
+    let s = side v in
+    let j = nth (met v) k in
+    let p = walk s j in
+    let bit : getD (fill (met v) (byteBits cs)) (step s (p / s) (p % s)) 0 ≡ getD (byteBits cs) k 0 =
+    ap (λ (j : ℕ). getD (fill (met v) (byteBits cs)) j 0) (walk-back v least most j (nth-step v least most k h))
+    ∙ fill-at (met v) (byteBits cs) j (nth-passes (met v) k (rw (order-count v least most) at h))
+    ∙ ap (λ (k : ℕ). getD (byteBits cs) k 0) (nth-back v least most k h) in
+    rw (order-at v least most k h)
+    (symbol-at v least most level mask cs p (walk-inside v least most j (nth-step v least most k h))
+    ∙ ap (λ (m : Module). colour v level mask m (getD (fill (met v) (byteBits cs)) (step s (p / s) (p % s)) 0) (flips mask (p / s) (p % s))) (data-module (moduleOn v p) (nth-data v least most k h))
+    ∙ ap (λ (b : ℕ). bitXor b (flips mask (p / s) (p % s))) bit)
+
+-- each listed place of a word has its bit's colour
+pub format-drawn : FormatDrawn
+unfolding moduleAt
+format-drawn v least most level mask cs copy b hc hb =
+    let p = getD (formatPlaces v copy) b 0 in
+    symbol-at v least most level mask cs p (word-places v least most .format-inside copy b hc hb)
+    ∙ ap (λ (m : Module). colour v level mask m (getD (fill (met v) (byteBits cs)) (step (side v) (p / side v) (p % side v)) 0) (flips mask (p / side v) (p % side v))) (word-places v least most .formats copy b hc hb)
+
+pub version-drawn : VersionDrawn
+unfolding moduleAt
+version-drawn v least most level mask cs copy b h hc hb =
+    let p = getD (versionPlaces v copy) b 0 in
+    symbol-at v least most level mask cs p (word-places v least most .version-inside copy b h hc hb)
+    ∙ ap (λ (m : Module). colour v level mask m (getD (fill (met v) (byteBits cs)) (step (side v) (p / side v) (p % side v)) 0) (flips mask (p / side v) (p % side v))) (word-places v least most .versions copy b h hc hb)
