@@ -3,23 +3,17 @@
 -- Assumes nothing.
 use mathlib.Core.Path.{_≡_, sym, subst, subst₂, _∙_}
 use mathlib.Core.Logic.{inl, inr}
-use mathlib.Core.List.{List, map}
+use mathlib.Core.List.{List}
 use Prim.Native.Nat.{ℕ, _≤_, _<_}
 use native.Mathlib.Omega.{arith}
-use lib.ListN.{length, take}
-use lib.Seq.{length-take-le}
-use Rattle.basics.specs.Lists.{upTo}
-use Rattle.basics.specs.Sums.{sum}
-use Rattle.basics.proofs.Lists.{length-map-upTo}
+use lib.ListN.{length}
 use Rattle.tables.specs.Tables
-use Rattle.tables.proofs.Rules.{data-sum}
 use Rattle.stream.specs.Stream.{LawfulMessage}
 use Rattle.parse.specs.Parse.{Parsed, Message, Fault, message}
 use Rattle.parse.proofs.Lawful.{parsed-lawful, buffers-enough}
-use Rattle.blocks.specs.Blocks.{gathered, dataOf}
-use Rattle.blocks.proofs.Cuts.{length-joined}
 use Rattle.scan.specs.Received.{received}
-use Rattle.reader.specs.Reader.{Answer, Read, Refused, answer, First, Reads, Versioned, Formatted, Corrected, blockWord}
+use Rattle.reader.specs.Reader.{Answer, Read, Refused, answer, First, Reads, Versioned, Formatted, Corrected}
+use Rattle.reader.proofs.Data.{data-length}
 use Rattle.promises.specs.Promises.{LawfulReading, ReadsLawful}
 
 module _ (v level mask t e : ℕ) (payload list : List ℕ) where
@@ -35,15 +29,6 @@ module _ (v level mask t e : ℕ) (payload list : List ℕ) where
   gave : (w l k x y : ℕ) (p : Parsed) → Read v level mask payload list t e ≡ answer w l k x y p → (v ≡ w) × (level ≡ l) × (mask ≡ k) × (p ≡ Message payload list)
   gave w l k x y (Message q r) h = (cc, cc, cc, cc)
   gave w l k x y (Fault n) h = absurd (not-refused n h)
-
--- as many data codewords as the version and level has
-data-length : (v level : ℕ) (bs : List ℕ) (blocks : ℕ → List ℕ) → Tables.Lawful v level
-    → ((b : ℕ) → b < Tables.blockCount v level → length (blocks b) ≡ length (blockWord v level bs b)) → length (dataOf v level blocks) ≡ Tables.dataCount v level
-unfolding dataOf blockWord gathered Tables.blockStart Tables.blockLength
-data-length v level bs blocks lawful h =
-    length-joined (λ b. take (Tables.blockData v level b) (blocks b)) (Tables.blockData v level) (Tables.blockCount v level)
-    (λ b l. length-take-le (Tables.blockData v level b) (blocks b) (rw (h b l ∙ length-map-upTo _ (Tables.blockLength v level b)) (omega arith)))
-    ∙ data-sum v level lawful
 
 pub reads-lawful : ReadsLawful
 unfolding Reads

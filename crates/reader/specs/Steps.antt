@@ -1,6 +1,7 @@
 -- What each step of the reader answers.
 -- Assumes nothing.
 use mathlib.Core.Path.{_≡_}
+use mathlib.Core.Logic.{_≢_, _⊎_}
 use mathlib.Core.List.{List}
 use Prim.Native.Nat.{ℕ, _<_}
 use lib.ListN.{length}
@@ -8,13 +9,18 @@ use Rattle.basics.specs.Lists.{AtMost}
 use Rattle.basics.specs.Sums as S
 use Rattle.tables.specs.Tables.{room, blockCount, checkCount}
 use Rattle.code.specs.Code.{Stands, differing, unreadable}
-use Rattle.blocks.specs.Blocks.{blockOf}
+use Rattle.blocks.specs.Blocks.{blockOf, dataOf}
 use Rattle.reader.specs.declared.Checked.{Checked}
 use Rattle.reader.specs.declared.Checked.the-variants.{Fine, TooHigh}
 use Rattle.reader.specs.declared.Sums.{Sums}
 use Rattle.reader.specs.declared.Mended.{Mended}
 use Rattle.reader.specs.declared.Mended.the-variants.{Within, Beyond}
-use Rattle.reader.specs.Reader.{Above}
+use Rattle.reader.specs.declared.Copies.{Copies}
+use Rattle.reader.specs.declared.Copies.the-variants.{Agreeing, Other}
+use Rattle.reader.specs.declared.Meta.{Meta}
+use Rattle.reader.specs.declared.Format.{Format}
+use Rattle.reader.specs.declared.Format.the-variants.{Word, NoWord}
+use Rattle.reader.specs.Reader.{Above, VersionStands, OtherVersion, FormatStands, NoFormat, TwoFormats, NoCodeword, BlockStands}
 
 -- 8: "a module above 2"
 abbrev pub ModulesRead : (m : List ℕ) → Checked → Type 0
@@ -45,3 +51,39 @@ abbrev pub BlocksMended : (v level : ℕ) (words flags mended : List ℕ) → Me
 BlocksMended v level words flags mended (Within s) = AllMended v level words flags mended s
 BlocksMended v level words flags mended Beyond =
     (b : ℕ) × (b < blockCount v level) × ((c : List ℕ) (t e : ℕ) → Standing v level words flags b c t e → ⊥)
+
+-- 9, for one copy of the version word
+abbrev pub VersionCopy : (v : ℕ) (m : List ℕ) (copy : ℕ) → Copies → Type 0
+VersionCopy v m copy Agreeing = (x : ℕ) → x ≢ v → VersionStands v m copy x → ⊥
+VersionCopy v m copy Other = (x : ℕ) × (x ≢ v) × VersionStands v m copy x
+
+-- 9: "a version copy stands for another version"
+abbrev pub VersionsRead : (v : ℕ) (m : List ℕ) → Copies → Type 0
+VersionsRead v m Agreeing = OtherVersion v m → ⊥
+VersionsRead v m Other = OtherVersion v m
+
+-- a format copy stands for the level and the mask, and the two stand for no different words
+pub record FormatRead (v : ℕ) (m : List ℕ) (meta : Meta) : Type 0 where
+  pub copy : ℕ
+  pub stands : FormatStands v m copy (meta .level) (meta .mask)
+  pub one : TwoFormats v m → ⊥
+
+-- 10: "neither format copy stands for anything"; 11: "the format copies stand for different words"
+abbrev pub FormatsRead : (v : ℕ) (m : List ℕ) → Format → Type 0
+FormatsRead v m (Word meta) = FormatRead v m meta
+FormatsRead v m (NoWord k) = ((k ≡ 10) × NoFormat v m) ⊎ ((k ≡ 11) × (NoFormat v m → ⊥) × TwoFormats v m)
+
+-- every block stands for its codeword; their data codewords, and the sums of the counts
+pub record WithinBounds (v level : ℕ) (bs held : List ℕ) (s : Sums) : Type 0 where
+  pub blocks : ℕ → List ℕ
+  pub ts : ℕ → ℕ
+  pub es : ℕ → ℕ
+  pub stand : (b : ℕ) → b < blockCount v level → BlockStands v level bs b (blocks b) (ts b) (es b)
+  pub data-of : held ≡ dataOf v level blocks
+  pub differing : s .differing ≡ S.sum (blockCount v level) ts
+  pub unreadable : s .unreadable ≡ S.sum (blockCount v level) es
+
+-- 12: "a block has no codeword within its bound"
+abbrev pub DataMended : (v level : ℕ) (bs held : List ℕ) → Mended → Type 0
+DataMended v level bs held (Within s) = WithinBounds v level bs held s
+DataMended v level bs held Beyond = NoCodeword v level bs
