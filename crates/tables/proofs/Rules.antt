@@ -13,8 +13,8 @@ use lib.ListN.{getD, drop}
 use borrow.Author.Tests.{leb-true, leb-false}
 use Rattle.basics.specs.Sums.{one, sum}
 use Rattle.basics.proofs.Test.{all, grid, either, either-cases, isNot, is-not}
-use Rattle.tables.specs.Version.{Square, Fixes}
-use Rattle.tables.specs.declared.Fixed.{Fixed}
+use Rattle.tables.specs.Version.{Square}
+use Rattle.tables.specs.Theorems.{Rules, FixesOnly}
 use Rattle.tables.specs.declared.Fixed.the-variants.{Version, NoVersion}
 use Rattle.tables.specs.Tables.{Lawful, side, totals, checkRows, blockRows, total, checkCount, blockCount, dataCount, shortLength, shortBlocks, blockData, blockStart, blockLength, room, lastVersion}
 
@@ -191,6 +191,24 @@ pub block-end : (v level b : ℕ) → Lawful v level → b < blockCount v level 
 block-end v level b l h =
     omega (arith, block-next v level b, block-start-later v level (suc b) (blockCount v level) h, data-sum v level l)
 
+-- ---- all of them
+
+pub tables-rules : Rules
+tables-rules v level l =
+    record {
+      whole = data-checks v level l;
+      positive = omega (arith, data-least v level l);
+      starts = block-start v level;
+      filled = data-sum v level l;
+      lengths = length-sum v level l;
+      held = λ b. omega (arith, block-data-least v level b l);
+      short = λ b. block-length-most v level b l;
+      bound = room-most v level;
+      codewords = total-most v (l .least) (l .most);
+      checks = checks-most v level l;
+      blocks = blocks-most v level l;
+    }
+
 -- ---- sides
 
 -- "side length fixes the version": no two versions have one length
@@ -204,7 +222,7 @@ version-only n v w p q =
     (grid 11 11 (λ v w. either (eqb v w) (isNot (side w * side w) (side v * side v))) side-tested v w (omega (arith, p .most)) (omega (arith, q .most))))
 
 -- no two different answers meet the promise of `version_of`
-pub fixes-only : (n : ℕ) (a b : Fixed) → Fixes n a → Fixes n b → a ≡ b
+pub fixes-only : FixesOnly
 fixes-only n (Version v) (Version w) p q = ap Version (version-only n v w p q)
 fixes-only n (Version v) NoVersion p q = absurd (q v p)
 fixes-only n NoVersion (Version w) p q = absurd (p w q)
