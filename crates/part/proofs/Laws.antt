@@ -14,6 +14,7 @@ use borrow.Author.Tests.{leb-true, eq-eqb, lt-ltb, le-ltb, lt-leb, le-leb}
 use Rattle.basics.specs.Lists.{from, upTo, joined}
 use Rattle.basics.proofs.Lists.{map-upTo-suc, joined-append, joined-one}
 use Rattle.part.specs.Part.{startOf, spanOf, partOf, nowhere}
+use Rattle.part.specs.Theorems.{PartInside, PartsJoin}
 use Rattle.part.specs.declared.Span.{Span}
 
 pub start-mono : (list : List ℕ) (j k : ℕ) → j ≤ k → startOf list j ≤ startOf list k
@@ -34,7 +35,7 @@ last true true c e = e
 last true false c e = cc
 last false b c e = cc
 
-pub within : (list : List ℕ) (n k : ℕ) → spanOf list n k .start + spanOf list n k .len ≤ n
+pub within : PartInside
 unfolding spanOf
 within list n k =
     fit (eqb (length list % 2) 0 && ltb k (length list / 2) && leb (startOf list (suc k)) n) (record { start = startOf list k; len = getD list (2 * k + 1) 0 }) n
@@ -65,6 +66,6 @@ module _ (payload list : List ℕ) (even : length list % 2 ≡ 0) (fits : startO
       ∙ ap₂ _++_ (parts-front n (omega arith)) (joined-one (partOf payload list n) ∙ part-here n h)
       ∙ sym (take-add (startOf list n) (getD list (2 * n + 1) 0) payload)
 
-  -- "The parts of a list whose counts sum to the payload's length join to the payload"
-  pub parts-join : startOf list (length list / 2) ≡ length payload → joined (map (partOf payload list) (upTo (length list / 2))) ≡ payload
-  parts-join e = parts-front (length list / 2) (le-refl _) ∙ rw e (take-all (length payload) payload (le-refl _))
+pub parts-join : PartsJoin
+parts-join payload list even e =
+    parts-front payload list even (rw e (le-refl (length payload))) (length list / 2) (le-refl _) ∙ rw e (take-all (length payload) payload (le-refl _))
