@@ -6,9 +6,10 @@ use mathlib.Core.List.{List, [], _∷_}
 use Prim.Native.Nat.{ℕ, zero, suc, _+_, _-_, _*_, _/_, _<_, _≤_}
 use native.Mathlib.Nat.{suc-mul, zero-mul, mul-le-mul, le-refl, le-trans, div-le-of-le-mul}
 use native.Mathlib.Omega.{arith}
+use lib.Dec.{eqb}
 use lib.ListN.{length, getD}
-use Rattle.basics.specs.Lists.{AtMost}
 use Rattle.basics.specs.Sums.{sum, apart}
+use Rattle.basics.proofs.Sums.{one-le}
 use Rattle.penalty.specs.Penalty.{rows, columns, runs, windows, lines, squares, dark, share, score}
 use Rattle.penalty.specs.Lines.{line, linesFrom, squaresFrom}
 use Rattle.penalty.specs.Promise.{ScoreBound}
@@ -43,10 +44,10 @@ squares-small m s h =
     rw (squares-rows s m)
     (le-trans (sum-bound (s - 1) (λ i. squaresFrom s m (i * s) (s - 1)) (3 * (s - 1)) (λ i. squares-from-le s m (i * s) (s - 1))) (mul-le-mul most each))
 
-pub dark-le : (m : List ℕ) → AtMost 1 m → dark m ≤ length m
+pub dark-le : (m : List ℕ) → dark m ≤ length m
 unfolding dark
-dark-le [] h = omega arith
-dark-le (x ∷ xs) h = omega (arith, h 0 (omega arith), dark-le xs (λ i l. h (suc i) (omega arith)))
+dark-le [] = omega arith
+dark-le (x ∷ xs) = omega (arith, one-le (eqb x 1), dark-le xs)
 
 pub share-le : (s k : ℕ) → k ≤ s * s → share s k ≤ 100
 unfolding share
@@ -58,7 +59,7 @@ share-le s k h =
 pub score-bound : ScoreBound
 unfolding score
 score-bound m e h =
-    let d : dark m ≤ 57 * 57 = omega (arith, dark-le m h) in
+    let d : dark m ≤ 57 * 57 = omega (arith, dark-le m) in
     let r : lines (rows 57 m) ≤ 110295 = rw (rows-lines 57 m e) (lines-small m 0 57 1 57 (le-refl 57)) in
     let c : lines (columns 57 (rows 57 m)) ≤ 110295 = rw (columns-lines 57 m e) (lines-small m 0 1 57 57 (le-refl 57)) in
     omega (arith, r, c, squares-small m 57 (le-refl 57), share-le 57 (dark m) d)

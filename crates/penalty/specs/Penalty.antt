@@ -60,7 +60,7 @@ squares s grid =
 -- the number of dark modules
 unfoldable pub dark : List ℕ → ℕ
 dark [] = 0
-dark (x ∷ xs) = x + dark xs
+dark (x ∷ xs) = one (eqb x 1) + dark xs
 
 -- "With k dark modules: 10·floor(|20k − 10s²| / s²)"
 unfoldable pub share : (s k : ℕ) → ℕ

@@ -2,19 +2,27 @@
 -- Assumes nothing.
 use mathlib.Core.Path.{_≡_, refl, sym, ap, _∙_}
 use mathlib.Core.List.{List, []}
-use Prim.Native.Nat.{ℕ, suc, _+_, _-_, _<_, _≤_}
+use Prim.Native.Nat.{ℕ, zero, suc, _+_, _-_, _<_, _≤_}
 use native.Mathlib.Nat.{zero-add, add-zero, le-antisymm}
 use native.Mathlib.Numerals.{add-one}
 use native.Mathlib.Omega.{arith}
+use lib.Dec.{eqb}
 use lib.ListN.{length, getD, drop}
 use lib.Seq.{drop-cons, drop-length}
+use Rattle.basics.specs.Sums.{one}
 use Rattle.penalty.specs.Penalty.{dark}
 use Rattle.penalty.proofs.dark.Statement.{statement}
 use Rattle.penalty.proofs.dark.Tie as tie
 
-more : (m : List ℕ) (k : ℕ) → k < length m → dark (drop k m) ≡ getD m k 0 + dark (drop (k + 1) m)
+-- a module is 0 or 1, so that it counts itself
+itself : (x : ℕ) → x ≤ 1 → one (eqb x 1) ≡ x
+itself zero h = refl
+itself (suc zero) h = refl
+itself (suc (suc x)) h = absurd (omega arith)
+
+more : (m : List ℕ) (k : ℕ) → k < length m → getD m k 0 ≤ 1 → dark (drop k m) ≡ getD m k 0 + dark (drop (k + 1) m)
 unfolding dark
-more m k h = rw (add-one, drop-cons m k 0 h)
+more m k h small = rw (add-one, drop-cons m k 0 h) (ap (λ (x : ℕ). x + dark (drop (suc k) m)) (itself (getD m k 0) small))
 
 none : (m : List ℕ) → dark (drop (length m) m) ≡ 0
 unfolding dark
@@ -48,7 +56,7 @@ loop-again : tie.Need-loop-again Inv-loop μ-loop
 loop-again c =
     let k = c .before .before .loop .k in
     let small = c .before .before .before .pre .1 k (omega arith) in
-    (omega arith, (omega arith, omega (arith, more (c .before .before .before .args .m .now) k (omega arith))))
+    (omega arith, (omega arith, omega (arith, more (c .before .before .before .args .m .now) k (omega arith) small)))
 
 returns : tie.Need-returns Inv-loop μ-loop
 returns c =

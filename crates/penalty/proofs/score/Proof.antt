@@ -25,7 +25,7 @@ parts c =
 count : (c : tie.After-dark) → c .dark .result ≤ c .before .before .before .before .before .args .s * c .before .before .before .before .before .args .s
 count c =
     let p = c .before .before .before .before .before .pre in
-    rw (c .dark .ensures) (omega (arith, dark-le (c .before .before .before .before .before .args .m .now) (p .1 .1 .1), p .1 .1 .0))
+    rw (c .dark .ensures) (omega (arith, dark-le (c .before .before .before .before .before .args .m .now), p .1 .1 .0))
 
 lines-score-requires : tie.Need-lines-score-requires
 lines-score-requires c κs = search needs
