@@ -4,10 +4,12 @@
 use mathlib.Core.Path.{_≡_, sym, subst, subst₂, _∙_}
 use mathlib.Core.Logic.{inl, inr}
 use mathlib.Core.List.{List}
-use Prim.Native.Nat.{ℕ, _≤_, _<_}
+use Prim.Native.Nat.{ℕ, zero, suc, _*_, _≤_, _<_}
 use native.Mathlib.Omega.{arith}
 use lib.ListN.{length}
+use Rattle.basics.specs.Sums.{sum}
 use Rattle.tables.specs.Tables
+use Rattle.tables.proofs.Rules.{room-most, checks-most, blocks-most}
 use Rattle.stream.specs.Stream.{LawfulMessage}
 use Rattle.parse.specs.Parse.{Parsed, Message, Fault, message}
 use Rattle.parse.proofs.Lawful.{parsed-lawful, buffers-enough}
@@ -26,9 +28,18 @@ module _ (v level mask t e : ℕ) (payload list : List ℕ) where
   passed (inr p) = p
 
   -- the stream gave it
-  gave : (w l k x y : ℕ) (p : Parsed) → Read v level mask payload list t e ≡ answer w l k x y p → (v ≡ w) × (level ≡ l) × (mask ≡ k) × (p ≡ Message payload list)
-  gave w l k x y (Message q r) h = (cc, cc, cc, cc)
+  gave : (w l k x y : ℕ) (p : Parsed) → Read v level mask payload list t e ≡ answer w l k x y p → (v ≡ w) × (level ≡ l) × (mask ≡ k) × (t ≡ x) × (e ≡ y) × (p ≡ Message payload list)
+  gave w l k x y (Message q r) h = (cc, cc, cc, cc, cc, cc)
   gave w l k x y (Fault n) h = absurd (not-refused n h)
+
+sum-thirty : (n : ℕ) (f : ℕ → ℕ) → ((b : ℕ) → b < n → f b ≤ 30) → sum n f ≤ 30 * n
+unfolding sum
+sum-thirty zero f few = omega arith
+sum-thirty (suc n) f few = omega (arith, sum-thirty n f (λ b l. few b (omega arith)), few n (omega arith))
+
+-- eight counts of at most 30
+sum-most : (n : ℕ) (f : ℕ → ℕ) → n ≤ 8 → ((b : ℕ) → b < n → f b ≤ 30) → sum n f ≤ 240
+sum-most n f h few = omega (arith, sum-thirty n f few)
 
 pub reads-lawful : ReadsLawful
 unfolding Reads
@@ -41,13 +52,18 @@ reads-lawful m payloadRoom listRoom v level mask t e payload list reads =
     let lawful : Tables.Lawful (p .version) (f .level) = record { least = p .sized .least; most = p .sized .most; levels = omega (arith, f .stands .levels) } in
     let g = gave v level mask t e payload list _ _ _ _ _ _ (d .gives) in
     let long = data-length (p .version) (f .level) (received (p .version) (f .mask) m) (d .blocks) lawful (λ b l. d .stand b l .long) in
-    let room = buffers-enough (p .version) (f .level) _ payload list lawful long (g .3) in
-    let enough : ¬ (payloadRoom < Tables.mostPayload) = λ h. small .0 (inl h) in
-    let enough′ : ¬ (listRoom < Tables.mostList) = λ h. small .0 (inr h) in
+    let few : (b : ℕ) → b < Tables.blockCount (p .version) (f .level) → (d .ts b ≤ 30) × (d .es b ≤ 30) =
+    λ b h. (
+      omega (arith, d .stand b h .near, room-most (p .version) (f .level), checks-most (p .version) (f .level) lawful),
+      omega (arith, d .stand b h .near, room-most (p .version) (f .level), checks-most (p .version) (f .level) lawful),
+    ) in
+    let room = buffers-enough (p .version) (f .level) _ payload list lawful long (g .5) in
     record {
       lawful = subst₂ Tables.Lawful (sym (g .0)) (sym (g .1)) lawful;
       masks = subst (λ (k : ℕ). k < 8) (sym (g .2)) (f .stands .masks);
-      message = subst₂ (λ (v level : ℕ). LawfulMessage v level payload list) (sym (g .0)) (sym (g .1)) (parsed-lawful (p .version) (f .level) _ payload list long (g .3));
-      payload-room = omega (arith, room .0);
-      list-room = omega (arith, room .1);
+      message = subst₂ (λ (v level : ℕ). LawfulMessage v level payload list) (sym (g .0)) (sym (g .1)) (parsed-lawful (p .version) (f .level) _ payload list long (g .5));
+      payload-most = room .0;
+      list-most = room .1;
+      differing-most = subst (λ (t : ℕ). t ≤ 240) (sym (g .3)) (sum-most _ (d .ts) (blocks-most _ _ lawful) (λ b h. few b h .0));
+      unreadable-most = subst (λ (t : ℕ). t ≤ 240) (sym (g .4)) (sum-most _ (d .es) (blocks-most _ _ lawful) (λ b h. few b h .1));
     }

@@ -1,5 +1,6 @@
 pub mod Damage
 pub mod Drawn
 pub mod Lawful
+pub mod Numbers
 pub mod ReadBack
 pub mod Same

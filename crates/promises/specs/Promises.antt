@@ -2,7 +2,7 @@
 -- Assumes nothing.
 use mathlib.Core.Path.{_≡_}
 use mathlib.Core.List.{List, List·Memᴰ}
-use Prim.Native.Nat.{ℕ, _+_, _*_, _≤_, _<_}
+use Prim.Native.Nat.{ℕ, suc, _+_, _*_, _≤_, _<_}
 use lib.ListN.{length, getD, take}
 use Rattle.basics.specs.Lists.{AtMost}
 use Rattle.basics.specs.Sums.{sum}
@@ -12,8 +12,9 @@ use Rattle.words.specs.Words.{Near}
 use Rattle.stream.specs.Stream.{LawfulMessage}
 use Rattle.modules.specs.Modules.{order, formatPlaces, versionPlaces}
 use Rattle.scan.specs.Received.{copied, readable, received}
-use Rattle.writer.specs.Writer.{Request, Drawn, draw}
-use Rattle.reader.specs.Reader.{Answer, Read, Reads, blockWord, blockFlags}
+use Rattle.writer.specs.Writer.{Request, Drawn, draw, refusal}
+use Rattle.writer.specs.Writer
+use Rattle.reader.specs.Reader.{Answer, Read, Refused, Reads, blockWord, blockFlags}
 
 -- a payload of bytes, as the caller's types have it
 abbrev pub Bytes : Request → Type 0
@@ -79,13 +80,31 @@ SameModules = (v : ℕ) (a b : List ℕ) (payloadRoom listRoom : ℕ) (x : Answe
 
 -- ---- what is read is a lawful message that fits the caller's buffers
 
-pub record LawfulReading (payloadRoom listRoom v level mask : ℕ) (payload list : List ℕ) : Type 0 where
+pub record LawfulReading (v level mask : ℕ) (payload list : List ℕ) (t e : ℕ) : Type 0 where
   pub lawful : Tables.Lawful v level
   pub masks : mask < 8
   pub message : LawfulMessage v level payload list
-  pub payload-room : length payload ≤ payloadRoom
-  pub list-room : length list ≤ listRoom
+  -- "652 digits is the most that 10-L holds; 154 empty byte segments is the longest list (9-L)"
+  pub payload-most : length payload ≤ Tables.mostPayload
+  pub list-most : length list ≤ Tables.mostList
+  -- no block's count passes its checks, and no version has more than eight blocks
+  pub differing-most : t ≤ Tables.mostChecks * Tables.mostBlocks
+  pub unreadable-most : e ≤ Tables.mostChecks * Tables.mostBlocks
 
 abbrev pub ReadsLawful : Type 0
 ReadsLawful = (m : List ℕ) (payloadRoom listRoom v level mask t e : ℕ) (payload list : List ℕ)
-    → Reads m payloadRoom listRoom (Read v level mask payload list t e) → LawfulReading payloadRoom listRoom v level mask payload list
+    → Reads m payloadRoom listRoom (Read v level mask payload list t e) → LawfulReading v level mask payload list t e
+
+-- ---- demand 1
+
+-- "each given exactly when document 01 says so": no two answers for one matrix
+abbrev pub ReadsOnly : Type 0
+ReadsOnly = (m : List ℕ) (payloadRoom listRoom : ℕ) (a b : Answer) → Reads m payloadRoom listRoom a → Reads m payloadRoom listRoom b → a ≡ b
+
+-- a request is drawn exactly where no check refuses it, and refused with the first that does
+pub record Draws (r : Request) (out : ℕ) : Type 0 where
+  pub drawn : refusal r out ≡ 0 → (v : ℕ) × (mask : ℕ) × (modules : List ℕ) × (draw r out ≡ Drawn v mask modules)
+  pub denied : (n : ℕ) → refusal r out ≡ suc n → draw r out ≡ Writer.Refused (suc n)
+
+abbrev pub DrawsAll : Type 0
+DrawsAll = (r : Request) (out : ℕ) → Draws r out
