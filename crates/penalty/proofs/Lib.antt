@@ -1,3 +1,4 @@
+pub mod Along
 pub mod Bound
 pub mod Examples
 pub mod Least

@@ -4,7 +4,7 @@ ghost use Prim.Native.Nat.{_+_, _-_, _*_, _<_, _≤_};
 ghost use lib.ListN.{length};
 ghost use Rattle.basics.specs.Lists.{same, AtMost};
 ghost use Rattle.penalty.specs.Penalty as paper;
-ghost use Rattle.penalty.specs.Lines.{line, linesFrom, windowAt, square, squaresFrom};
+ghost use Rattle.penalty.specs.Lines.{line, linesFrom, windowAt, windowMet, runEnd, square, squaresFrom};
 
 // The finder-like patterns, 10111010000 and 00001011101.
 const PATTERNS: [[u8; 11]; 2] = [
@@ -17,31 +17,6 @@ fn run_score(r: u32) -> u32
     ensures { λ s. ⌜ s ≡ paper.run r ⌝ }
 {
     if 5 <= r { r - 2 } else { 0 }
-}
-
-// What the runs of a line add.
-fn line_runs(m: &[u8], start: usize, stride: usize, n: usize) -> u32
-    requires { ⌜ (stride ≤ 64) × ((1 ≤ n) × ((n ≤ 64) × (start + n * stride < length (now m) + stride))) ⌝ }
-    ensures { λ r. ⌜ r ≡ paper.runs (line (now (m .entry)) start stride n) ⌝ }
-{
-    let mut score: u32 = 0;
-    let mut colour = m[start];
-    let mut run: u32 = 1;
-    let mut at = start + stride;
-    let mut left = n - 1;
-    while 0 < left {
-        let x = m[at];
-        if x == colour {
-            run += 1;
-        } else {
-            score += run_score(run);
-            colour = x;
-            run = 1;
-        }
-        at += stride;
-        left -= 1;
-    }
-    score + run_score(run)
 }
 
 // Whether two windows are equal.
@@ -85,15 +60,15 @@ fn window(m: &[u8], start: usize, stride: usize) -> [u8; 11]
     w
 }
 
-// What the window at start adds. In both patterns module 6 is dark and 9 is light: a window that differs there is neither.
+// What the window at start adds. In both patterns modules 1 and 9 are light: a window that differs there is neither.
 fn window_score(m: &[u8], start: usize, stride: usize) -> u32
     requires { ⌜ (stride ≤ 64) × (start + 10 * stride < length (now m)) ⌝ }
     ensures { λ r. ⌜ r ≡ windowAt (now (m .entry)) start stride ⌝ }
 {
-    if m[start + 6 * stride] != 1 {
+    if m[start + 9 * stride] != 0 {
         return 0;
     }
-    if m[start + 9 * stride] != 0 {
+    if m[start + stride] != 0 {
         return 0;
     }
     if finder_like(window(m, start, stride)) {
@@ -102,24 +77,57 @@ fn window_score(m: &[u8], start: usize, stride: usize) -> u32
     0
 }
 
-// What the windows of a line add. In both patterns module 5 is light and 4 is dark.
-fn line_windows(m: &[u8], start: usize, stride: usize, n: usize) -> u32
+// What a window adds whose module 6 is at `at`: `done` modules of the line came before it, and `left` are left with it.
+fn window_met(m: &[u8], at: usize, stride: usize, done: usize, left: usize) -> u32
+    requires { ⌜ (stride ≤ 64) × ((done * stride ≤ at) × (at + left * stride < length (now m) + stride)) ⌝ }
+    ensures { λ r. ⌜ r ≡ windowMet (now (m .entry)) at stride done left ⌝ }
+{
+    if done < 6 {
+        return 0;
+    }
+    if left < 5 {
+        return 0;
+    }
+    window_score(m, at - 6 * stride, stride)
+}
+
+// What is added where a run of r modules ends before module x. In both patterns module 6 is dark after one light module.
+fn run_end(m: &[u8], at: usize, stride: usize, done: usize, left: usize, r: u32, x: u8) -> u32
+    requires { ⌜ (stride ≤ 64) × ((done * stride ≤ at) × (at + left * stride < length (now m) + stride)) ⌝ }
+    ensures { λ s. ⌜ s ≡ runEnd (now (m .entry)) at stride done left r x ⌝ }
+{
+    if r == 1 {
+        if x == 1 {
+            return window_met(m, at, stride, done, left);
+        }
+        return 0;
+    }
+    run_score(r)
+}
+
+// What a line adds by its runs and its windows.
+fn line_score(m: &[u8], start: usize, stride: usize, n: usize) -> u32
     requires { ⌜ (stride ≤ 64) × ((10 ≤ n) × ((n ≤ 64) × (start + n * stride < length (now m) + stride))) ⌝ }
-    ensures { λ r. ⌜ r ≡ paper.windows (line (now (m .entry)) start stride n) ⌝ }
+    ensures { λ r. ⌜ r ≡ paper.runs (line (now (m .entry)) start stride n) + paper.windows (line (now (m .entry)) start stride n) ⌝ }
 {
     let mut score: u32 = 0;
-    let mut at = start;
-    let mut left = n - 10;
+    let mut colour = m[start];
+    let mut run: u32 = 1;
+    let mut at = start + stride;
+    let mut left = n - 1;
     while 0 < left {
-        if m[at + 5 * stride] == 0 {
-            if m[at + 4 * stride] == 1 {
-                score += window_score(m, at, stride);
-            }
+        let x = m[at];
+        if x == colour {
+            run += 1;
+        } else {
+            score += run_end(m, at, stride, n - left, left, run, x);
+            colour = x;
+            run = 1;
         }
         at += stride;
         left -= 1;
     }
-    score
+    score + run_score(run)
 }
 
 // What n lines of n modules add, which start at 0, step, 2·step, ..
@@ -131,8 +139,7 @@ fn lines_score(m: &[u8], step: usize, stride: usize, n: usize) -> u32
     let mut start: usize = 0;
     let mut left = n;
     while 0 < left {
-        let runs = line_runs(m, start, stride, n);
-        score += runs + line_windows(m, start, stride, n);
+        score += line_score(m, start, stride, n);
         start += step;
         left -= 1;
     }

@@ -3,7 +3,7 @@
 use mathlib.Core.Path.{_≡_, refl, sym, ap, ap₂, _∙_}
 use mathlib.Core.List.{List}
 use Prim.Native.Nat.{ℕ, suc, _+_, _*_, _-_, _<_, _≤_}
-use native.Mathlib.Nat.{zero-add, add-zero, add-assoc, mul-le-mul}
+use native.Mathlib.Nat.{zero-add, add-zero, add-assoc}
 use native.Mathlib.Omega.{arith}
 use lib.ListN.{length}
 use Rattle.penalty.specs.Penalty.{lines, runs, windows}
@@ -25,30 +25,24 @@ Inv-loop m step stride n score₀ start₀ left₀ score start left = (left ≤ 
 abbrev μ-loop : tie.MeasureT-loop
 μ-loop m step stride n score₀ start₀ left₀ score start left = left
 
-small : (c : tie.After-line-windows Inv-loop μ-loop) → c .before .line-runs .result + c .line-windows .result ≤ 4096
+small : (c : tie.After-line-score Inv-loop μ-loop) → c .line-score .result ≤ 4096
 small c =
-    let a = c .before .before .before .before .before .args in
-    let at = line (a .m .now) (c .before .before .before .loop .start) (a .stride) (a .n) in
+    let a = c .before .before .before .before .args in
+    let at = line (a .m .now) (c .before .before .loop .start) (a .stride) (a .n) in
     let e : length at ≡ a .n = length-line _ _ _ _ in
-    rw (c .before .line-runs .ensures, c .line-windows .ensures) (omega (arith, runs-le at, windows-le at))
+    rw (c .line-score .ensures) (omega (arith, runs-le at, windows-le at))
 
 loop-holds : tie.Need-loop-holds Inv-loop μ-loop
 loop-holds c = (omega arith, (omega arith, (omega arith, zero-add _)))
 
-line-runs-requires : tie.Need-line-runs-requires Inv-loop μ-loop
-line-runs-requires c κs = omega (arith, stride-less (c .before .loop .left) (c .before .before .before .args .step) (omega arith))
-
-line-windows-requires : tie.Need-line-windows-requires Inv-loop μ-loop
-line-windows-requires c κs = omega (arith, stride-less (c .before .before .loop .left) (c .before .before .before .before .args .step) (omega arith))
+line-score-requires : tie.Need-line-score-requires Inv-loop μ-loop
+line-score-requires c κs = omega (arith, stride-less (c .before .loop .left) (c .before .before .before .args .step) (omega arith))
 
 add-score : tie.Need-add-score Inv-loop μ-loop
 add-score c = omega (arith, small c)
 
-add-score-2 : tie.Need-add-score-2 Inv-loop μ-loop
-add-score-2 c = omega (arith, small c)
-
 add-start : tie.Need-add-start Inv-loop μ-loop
-add-start c = omega (arith, stride-less (c .before .before .before .loop .left) (c .before .before .before .before .before .args .step) (omega arith))
+add-start c = omega (arith, stride-less (c .before .before .loop .left) (c .before .before .before .before .args .step) (omega arith))
 
 sub-left : tie.Need-sub-left Inv-loop μ-loop
 sub-left c = omega arith
@@ -58,15 +52,15 @@ loop-less c = omega arith
 
 loop-again : tie.Need-loop-again Inv-loop μ-loop
 loop-again c =
-    let a = c .before .before .before .before .before .args in
-    let l = c .before .before .before .loop in
+    let a = c .before .before .before .before .args in
+    let l = c .before .before .loop in
     let e = stride-less (l .left) (a .step) (omega arith) in (
       omega arith,
       (
         omega (arith, small c),
         (
           omega arith,
-          rw (c .before .line-runs .ensures, c .line-windows .ensures)
+          rw (c .line-score .ensures)
               (add-assoc _ _ _ ∙ ap (λ (x : ℕ). l .score + x) (sym (first (a .m .now) (l .start) (a .step) (a .stride) (a .n) (l .left) (omega arith))) ∙ l .inv .1 .1 .1),
         ),
       ),
@@ -86,10 +80,8 @@ lines-score-spec =
     Inv-loop
     μ-loop
     loop-holds
-    line-runs-requires
-    line-windows-requires
+    line-score-requires
     add-score
-    add-score-2
     add-start
     sub-left
     loop-less

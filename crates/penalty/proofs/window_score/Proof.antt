@@ -1,7 +1,10 @@
 -- `penalty::window_score` meets its contract. A test that fails rules both patterns out.
 -- Assumes nothing.
-use mathlib.Core.Path.{_≡_, refl, sym, ap, _∙_}
+use mathlib.Core.Path.{_≡_, refl, sym, ap, subst, _∙_}
+use Prim.Native.Nat.{ℕ, _+_, _*_}
+use native.Mathlib.Nat.{one-mul}
 use native.Mathlib.Omega.{arith}
+use lib.ListN.{getD}
 use Rattle.penalty.specs.Penalty.{finderLike, patterns}
 use Rattle.penalty.specs.Lines.{windowAt}
 use Rattle.penalty.proofs.Windows.{window-off}
@@ -20,10 +23,7 @@ shared-slice-read-if1 c = search needs
 
 returns : tie.Need-returns
 unfolding patterns
-returns c = sym (window-off _ _ _ 6 1 (omega arith) refl refl (c .if1 .taken))
-
-mul-if2 : tie.Need-mul-if2
-mul-if2 c = search needs
+returns c = sym (window-off _ _ _ 9 0 (omega arith) refl refl (c .if1 .taken))
 
 add-if2 : tie.Need-add-if2
 add-if2 c = search needs
@@ -33,7 +33,9 @@ shared-slice-read-if2 c = search needs
 
 returns-2 : tie.Need-returns-2
 unfolding patterns
-returns-2 c = sym (window-off _ _ _ 9 0 (omega arith) refl refl (c .if2 .taken))
+returns-2 c =
+    let a = c .before .before .before .before .before .args in
+    sym (window-off (a .m .now) (a .start) (a .stride) 1 0 (omega arith) refl refl (λ e. c .if2 .taken (ap (λ (p : ℕ). getD (a .m .now) (a .start + p) 0) (sym (one-mul (a .stride))) ∙ e)))
 
 window-requires : tie.Need-window-requires
 window-requires c κs = search needs
@@ -57,7 +59,6 @@ window-score-spec =
     add-if1
     shared-slice-read-if1
     returns
-    mul-if2
     add-if2
     shared-slice-read-if2
     returns-2
