@@ -630,7 +630,8 @@ fn examples(r: &mut Run) {
     r.done(start);
 }
 
-/// Symbols that another program drew with a named version, level and mask: version, level, mask, mode, count (high byte first), payload, modules.
+/// Symbols that another program drew with a named version, level and mask: version, level, mask, mode, then
+/// the payload's and the matrix's length (high byte first), payload, modules.
 fn outside(r: &mut Run, file: &[u8]) {
     let start = Instant::now();
     r.kind("outside symbols, forced version, level and mask");
@@ -638,10 +639,10 @@ fn outside(r: &mut Run, file: &[u8]) {
     while at < file.len() {
         let (v, level, mask, mode) = (file[at] as usize, file[at + 1] as u32, file[at + 2] as u32, file[at + 3] as u16);
         let count = file[at + 4] as usize * 256 + file[at + 5] as usize;
-        let payload = &file[at + 6..at + 6 + count];
+        let payload = &file[at + 8..at + 8 + count];
         let s = paper::side(v);
-        let modules = &file[at + 6 + count..at + 6 + count + s * s];
-        at += 6 + count + s * s;
+        let modules = &file[at + 8 + count..at + 8 + count + s * s];
+        at += 8 + count + s * s;
         let (d, drawn) = r.request(payload, &[mode, count as u16], level, v as u32, mask, s * s);
         r.tell(d.refusal == 0 && drawn == modules, || format!("symbol of version {v} level {level} mask {mask} mode {mode}"));
         r.whole(modules);
@@ -689,7 +690,7 @@ fn main() {
     let option = |name: &str, default: u64| -> u64 {
         words.iter().position(|w| w == name).and_then(|k| words.get(k + 1)).and_then(|x| x.parse().ok()).unwrap_or(default)
     };
-    let (seed, count) = (option("--seed", 1), option("--count", 2000) as usize);
+    let (seed, count) = (option("--seed", 1), option("--count", 20000) as usize);
     let field = Field::new();
     if words.iter().any(|w| w == "--mutants") {
         let (mut caught, mut missed) = (0, 0);
