@@ -5,7 +5,7 @@ use mathlib.Core.List.{List, [], _∷_, _++_, map}
 use Prim.Native.Nat.{ℕ}
 use lib.ListN.{replicate}
 use Rattle.basics.specs.Lists.{from, upTo, joined}
-use Rattle.tables.specs.Tables.{blockData}
+use Rattle.tables.specs.Tables.{blockData, blockCount, checkCount}
 use Rattle.field.specs.Field.{mulN, powN}
 use Rattle.code.specs.Code.{generator, checks}
 use Rattle.words.specs.Words.{formatWord, formatBits, versionWord}
@@ -30,29 +30,29 @@ unfoldable pub line : ℕ → List ℕ
 line r = 0 ∷ replicate r 1 ++ (0 ∷ [])
 
 -- EC 11, n times
-unfoldable pub pads : ℕ → List ℕ
-pads n = joined (replicate n (0xEC ∷ 0x11 ∷ []))
+unfoldable pub padPairs : ℕ → List ℕ
+padPairs n = joined (replicate n (0xEC ∷ 0x11 ∷ []))
 
 unfoldable pub a-data : List ℕ
-unfolding pads
-a-data = 0x10 ∷ 0x20 ∷ 0x0C ∷ 0x56 ∷ 0x61 ∷ 0x80 ∷ pads 5
+unfolding padPairs
+a-data = 0x10 ∷ 0x20 ∷ 0x0C ∷ 0x56 ∷ 0x61 ∷ 0x80 ∷ padPairs 5
 
 unfoldable pub examples : List Example
-unfolding digits line pads a-data
+unfolding digits line padPairs a-data
 examples =
     -- a. 1-M, numeric 01234567: data 10 20 0C 56 61 80 EC 11 .., checks A5 24 D4 C1 ED 36 C7 87 2C 55
     gives (dataCodewords 1 1 (1 ∷ 8 ∷ []) (48 ∷ 49 ∷ 50 ∷ 51 ∷ 52 ∷ 53 ∷ 54 ∷ 55 ∷ [])) a-data
-    ∷ gives (checks 10 a-data) (0xA5 ∷ 0x24 ∷ 0xD4 ∷ 0xC1 ∷ 0xED ∷ 0x36 ∷ 0xC7 ∷ 0x87 ∷ 0x2C ∷ 0x55 ∷ [])
+    ∷ gives (checks (checkCount 1 1) a-data) (0xA5 ∷ 0x24 ∷ 0xD4 ∷ 0xC1 ∷ 0xED ∷ 0x36 ∷ 0xC7 ∷ 0x87 ∷ 0x2C ∷ 0x55 ∷ [])
     -- b. 1-H, alphanumeric AC-42: data 20 29 CE E7 21 00 EC 11 EC
     ∷ gives (dataCodewords 1 3 (2 ∷ 5 ∷ []) (65 ∷ 67 ∷ 45 ∷ 52 ∷ 50 ∷ [])) (0x20 ∷ 0x29 ∷ 0xCE ∷ 0xE7 ∷ 0x21 ∷ 0x00 ∷ 0xEC ∷ 0x11 ∷ 0xEC ∷ [])
     -- c. 1-L, empty list: 00, then EC 11 nine times
-    ∷ gives (dataCodewords 1 0 [] []) (0x00 ∷ pads 9)
+    ∷ gives (dataCodewords 1 0 [] []) (0x00 ∷ padPairs 9)
     -- d. M, mask 5: format hex 40CE
     ∷ gives (formatWord (formatBits 1 5) ∷ []) (0x40CE ∷ [])
     -- e. Version words 7 to 10: hex 07C94, 085BC, 09A99, 0A4D3
     ∷ gives (map versionWord (from 7 4)) (0x07C94 ∷ 0x085BC ∷ 0x09A99 ∷ 0x0A4D3 ∷ [])
     -- f. 5-Q blocks: 15, 15, 16, 16 data
-    ∷ gives (map (blockData 5 2) (upTo 4)) (15 ∷ 15 ∷ 16 ∷ 16 ∷ [])
+    ∷ gives (map (blockData 5 2) (upTo (blockCount 5 2))) (15 ∷ 15 ∷ 16 ∷ 16 ∷ [])
     -- g. n = 7: generator exponents 0, 87, 229, 146, 149, 238, 102, 21
     ∷ gives (generator 7) (map powN (0 ∷ 87 ∷ 229 ∷ 146 ∷ 149 ∷ 238 ∷ 102 ∷ 21 ∷ []))
     -- h. Level L: 17 bytes take version 1, 18 take version 2

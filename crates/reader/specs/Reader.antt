@@ -3,7 +3,7 @@
 use mathlib.Core.Path.{_≡_}
 use mathlib.Core.Logic.{_≢_, _⊎_}
 use mathlib.Core.List.{List, _++_}
-use Prim.Native.Nat.{ℕ, _+_, _*_, _/_, _≤_, _<_}
+use Prim.Native.Nat.{ℕ, _≤_, _<_}
 use lib.ListN.{length, getD, drop}
 use Rattle.basics.specs.Sums.{sum}
 use Rattle.tables.specs.Tables.{room, blockCount, checkCount, mostPayload, mostList}
@@ -128,29 +128,3 @@ payloadAfter (Refused n) before = before
 abbrev pub listAfter : Answer → (list : List ℕ) → List ℕ
 listAfter (Read v level mask payload list t e) before = list ++ drop (length list) before
 listAfter (Refused n) before = before
-
--- "A refusal carries its number and zeros"
-pub record ReadNumbers : Type 0 where
-  pub refusal : ℕ
-  pub version : ℕ
-  pub level : ℕ
-  pub mask : ℕ
-  pub payloadLength : ℕ
-  pub segments : ℕ
-  pub differing : ℕ
-  pub unreadable : ℕ
-
-abbrev pub readNumbers : Answer → ReadNumbers
-readNumbers (Read v l m payload list t e) =
-    record {
-      refusal = 0;
-      version = v;
-      level = l;
-      mask = m;
-      payloadLength = length payload;
-      segments = length list / 2;
-      differing = t;
-      unreadable = e;
-    }
-readNumbers (Refused n) =
-    record { refusal = n; version = 0; level = 0; mask = 0; payloadLength = 0; segments = 0; differing = 0; unreadable = 0 }
