@@ -1,6 +1,6 @@
 -- A number in decimal: its last digit, the number without it, at most n digits; and read back it is the number.
 -- Assumes nothing.
-use mathlib.Core.Path.{_≡_, refl, sym, ap, _∙_}
+use mathlib.Core.Path.{_≡_, refl}
 use mathlib.Core.Logic.{_≢_, by-cases}
 use mathlib.Core.List.{List, [], _∷_, _++_}
 use Prim.Native.Nat.{ℕ, zero, suc, _+_, _-_, _*_, _/_, _%_, _≤_, _<_, _^_}
@@ -8,7 +8,6 @@ use native.Mathlib.Nat.{pow-zero, pow-suc}
 use native.Mathlib.Numerals.{sub-one}
 use native.Mathlib.Decide.{decLt}
 use native.Mathlib.Omega.{arith}
-use lib.Dec.{ltb}
 use lib.ListN.{length, length-append}
 use borrow.Author.Tests.{lt-ltb, le-ltb}
 use Rattle.text.specs.Text.{decimal}

@@ -6,9 +6,8 @@
 -- Assumes nothing.
 use mathlib.Core.Path.{_≡_, refl, sym, ap, subst, _∙_}
 use mathlib.Core.List.{List, [], _∷_, _++_, append-assoc, append-nil}
-use Prim.Native.Nat.{ℕ, zero, suc, _+_, _≤_}
-use native.Mathlib.Nat.{add-zero, add-suc, suc-add, zero-add, add-assoc}
-use native.Mathlib.Numerals.{add-one}
+use Prim.Native.Nat.{ℕ, suc, _+_, _≤_}
+use native.Mathlib.Nat.{add-zero, add-suc, suc-add, zero-add}
 use native.Mathlib.Omega.{arith}
 use lib.ListN.{length, drop, set, length-append, length-set}
 use lib.Seq.{sets, sets-eq}

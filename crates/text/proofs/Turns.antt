@@ -2,7 +2,7 @@
 -- Assumes nothing.
 use mathlib.Core.Path.{_≡_, refl, sym, ap, _∙_}
 use mathlib.Core.List.{List, [], _∷_, _++_}
-use Prim.Native.Nat.{ℕ, suc, _+_, _-_, _*_, _/_, min, _%_, _≤_, _<_}
+use Prim.Native.Nat.{ℕ, _+_, _-_, _*_, _/_, min, _%_, _≤_, _<_}
 use mathlib.Core.Logic.{by-cases}
 use native.Mathlib.Nat.{min-eq-left, min-eq-right, add-sub-cancel-left}
 use native.Mathlib.Decide.{decLe}

@@ -80,3 +80,7 @@ readingText version level mask payload list differing unreadable =
 -- "A refusal prints one line, `refused N`"
 unfoldable pub refusalText : ℕ → List ℕ
 refusalText n = line (field "refused " n ∷ [])
+
+-- a buffer of so many bytes has room for every text of 652 payload bytes and 154 segments
+abbrev pub mostText : ℕ
+mostText = 16384

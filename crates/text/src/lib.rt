@@ -4,13 +4,10 @@ ghost use mathlib.Core.List.{[], _∷_, _++_};
 ghost use Prim.Native.Nat.{min, _≤_, _<_};
 ghost use lib.ListN.{length};
 ghost use Rattle.text.specs.Paste.{Room, Pasted, Printed};
-ghost use Rattle.text.specs.Text.{decimal, shown, hexDigit, hex, letter, firstLine, secondLine, segmentLine, segmentText, segmentLines, readingText, refusalText};
+ghost use Rattle.text.specs.Text.{decimal, shown, hexDigit, hex, letter, firstLine, secondLine, segmentLine, segmentText, segmentLines, readingText, refusalText, mostText};
 
 // The most digits of a number of 64 bits.
 const MOST_DIGITS: usize = 20;
-
-// A buffer of so many bytes holds every text.
-pub const MOST_TEXT: usize = 16384;
 
 const LINE_FEED: u8 = 10;
 
@@ -192,7 +189,7 @@ pub fn print_reading(
     differing: usize,
     unreadable: usize,
 ) -> usize
-    requires { ⌜ (level < 4) × ((length (now payload) ≤ 652) × ((length (now list) ≤ 308) × (16384 ≤ length (now out)))) ⌝ }
+    requires { ⌜ (level < 4) × ((length (now payload) ≤ 652) × ((length (now list) ≤ 308) × (mostText ≤ length (now out)))) ⌝ }
     ensures { λ r. ⌜ Printed (readingText version level mask (now (payload .entry)) (now (list .entry)) differing unreadable) (now (out .entry)) r (now (out .exit)) ⌝ }
 {
     let first = put_first_line(out, 0, version, level, mask);
@@ -204,7 +201,7 @@ pub fn print_reading(
 
 // The whole output for a refusal, at the front of the buffer; its length comes back.
 pub fn print_refusal(out: &mut [u8], n: usize) -> usize
-    requires { ⌜ 16384 ≤ length (now out) ⌝ }
+    requires { ⌜ mostText ≤ length (now out) ⌝ }
     ensures { λ r. ⌜ Printed (refusalText n) (now (out .entry)) r (now (out .exit)) ⌝ }
 {
     let numbered = put_field(out, 0, b"refused ", n);
