@@ -1,6 +1,6 @@
 /* Thwelgamy: QR symbols of versions 1 to 10, drawn and read for kiln controller panels.
  *
- * Link with libpanel.a (x86-64, System V calls). No heap, no writable statics, no calls out: every function may be called from
+ * Link with libpanel.a (x86-64, System V calls). No heap, no writable statics; of the C library it calls memcpy and memset alone. Every function may be called from
  * several threads or interrupt levels at once, on memory that is not shared. A call needs at most KQS_STACK bytes of stack.
  *
  * A message is a payload (bytes) and a segment list (16-bit numbers of the machine's own byte order, in pairs: mode, count).
