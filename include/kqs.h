@@ -10,8 +10,8 @@
  * A matrix has side s = 17 + 4 * version and s * s bytes, row by row from the top left: 0 light, 1 dark, 2 unreadable.
  * Levels: 0 L, 1 M, 2 Q, 3 H.
  *
- * Every call answers every input. A pointer may be anything where its length is 0; otherwise it points at that many bytes or numbers.
- * Memory that is lent for reading and memory that is lent for writing must not overlap. */
+ * Every call answers every input. A pointer points at as many bytes or numbers as its length says, and is not NULL.
+ * Memory that is lent for writing must not overlap any other memory that the same call is lent. A list is aligned as uint16_t is. */
 #ifndef KQS_H
 #define KQS_H
 
