@@ -1,7 +1,7 @@
 //! Compares the proved library with a second program written from document 01, on a seeded stream of requests and matrices: every field of
 //! every answer and every byte of every lent buffer, with marked bytes around each.
 //!
-//! usage: compare [--seed N] [--count N] [--mutants] [--outside FILE]
+//! usage: compare [--seed N] [--count N] [--mutants] [--outside FILE] [--job NAME]
 
 mod paper;
 
@@ -685,6 +685,49 @@ fn mutants() -> Vec<(&'static str, Quirks)> {
     ]
 }
 
+/// One call of the second program, to be counted: the jobs of jobs.c, by the same names and on the same bytes.
+fn job(field: &Field, name: &str) -> Option<u32> {
+    let (does, rest) = name.split_once(' ')?;
+    let (size, how) = rest.split_once(' ')?;
+    let (v, level, count, wrong) = match size {
+        "1-M" => (1, 1, 14, 5),
+        "5-M" => (5, 1, 84, 24),
+        "10-L" => (10, 0, 271, 36),
+        _ => return None,
+    };
+    let payload: Vec<u8> = (0..count).map(|n| (n * 37 + 11) as u8).collect();
+    let list = [4, count as u16];
+    let mut modules = vec![0; paper::side(v) * paper::side(v)];
+    let (mut back, mut said) = (vec![0; 652], vec![0; 308]);
+    match does {
+        "draw" => {
+            let mask = if how.ends_with("chosen") { 8 } else { 2 };
+            Some(paper_write(field, &payload, &list, level, v as u32, mask, &mut modules).refusal)
+        }
+        "read" => {
+            paper::write(field, &payload, &list, level, v as u32, 2, &mut modules, &PLAIN);
+            if how == "bound" {
+                let order = paper::data_modules(v, &PLAIN);
+                for (i, j) in (0..wrong).map(|k| order[8 * k]) {
+                    modules[i * paper::side(v) + j] ^= 1;
+                }
+            }
+            Some(paper_read(field, &modules, &mut back, &mut said).refusal)
+        }
+        _ => None,
+    }
+}
+#[no_mangle]
+#[inline(never)]
+fn paper_write(field: &Field, payload: &[u8], list: &[u16], level: u32, version: u32, mask: u32, out: &mut [u8]) -> Drawn {
+    paper::write(field, payload, list, level, version, mask, out, &PLAIN)
+}
+#[no_mangle]
+#[inline(never)]
+fn paper_read(field: &Field, matrix: &[u8], payload: &mut [u8], list: &mut [u16]) -> Reading {
+    paper::read(field, matrix, payload, list, &PLAIN)
+}
+
 fn main() {
     let words: Vec<String> = std::env::args().skip(1).collect();
     let option = |name: &str, default: u64| -> u64 {
@@ -692,6 +735,11 @@ fn main() {
     };
     let (seed, count) = (option("--seed", 1), option("--count", 20000) as usize);
     let field = Field::new();
+    if let Some(name) = words.iter().position(|w| w == "--job").and_then(|k| words.get(k + 1)) {
+        let answer = job(&field, name);
+        println!("{name}: {}", answer.map_or("no such job".into(), |n| format!("refusal {n}")));
+        std::process::exit((answer != Some(0)) as i32);
+    }
     if words.iter().any(|w| w == "--mutants") {
         let (mut caught, mut missed) = (0, 0);
         for (name, quirks) in mutants() {
