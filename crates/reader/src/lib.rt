@@ -1,5 +1,6 @@
 // The answer that a matrix gets: a straight line of steps, each an enum; the first fault leaves.
 ghost use mathlib.Core.Path.{_≡_};
+ghost use mathlib.Core.Logic.{_⊎_};
 ghost use Prim.Native.Nat.{_*_, _≤_, _<_};
 ghost use lib.ListN.{length};
 ghost use Rattle.basics.specs.Lists.{AtMost};
@@ -28,18 +29,28 @@ pub enum Checked {
 // The largest module.
 const UNREADABLE: u8 = 2;
 
+// The larger of two modules.
+fn larger(a: u8, b: u8) -> u8
+    ensures { λ r. ⌜ (a ≤ r) × ((b ≤ r) × ((r ≡ a) ⊎ (r ≡ b))) ⌝ }
+{
+    if a < b { b } else { a }
+}
+
 // Looks at every module.
 fn check_modules(m: &[u8]) -> Checked
     ensures { λ r. ⌜ ModulesRead (now (m .entry)) r ⌝ }
 {
+    let mut most: u8 = 0;
     let mut k: usize = 0;
     while k < m.len() {
-        if UNREADABLE < m[k] {
-            return Checked::TooHigh;
-        }
+        most = larger(most, m[k]);
         k += 1;
     }
-    Checked::Fine
+    if UNREADABLE < most {
+        Checked::TooHigh
+    } else {
+        Checked::Fine
+    }
 }
 
 // Over all blocks, the readable codewords that differed and the unreadable ones.

@@ -10,10 +10,10 @@ use lib.Bits.{bitXor}
 use lib.Dec.{T, eqb, leb, leb→le}
 use lib.ListN.{length, getD}
 use Rattle.basics.specs.Bits.{bitOf}
-use Rattle.basics.specs.Lists.{upTo, AtMost}
-use Rattle.basics.proofs.Lists.{length-map, getD-map, getD-map-upTo}
+use Rattle.basics.specs.Lists.{AtMost}
+use Rattle.basics.proofs.Lists.{length-map, getD-map}
 use Rattle.basics.proofs.Test.{grid}
-use Rattle.tables.specs.Tables.{side, total, surplus, lastVersion, mostSide}
+use Rattle.tables.specs.Tables.{side, total, surplus, lastVersion}
 use Rattle.modules.specs.Modules.{order, flips}
 use Rattle.modules.specs.Kinds.{rowFlips}
 use Rattle.modules.proofs.Geometry.{placed-once, order-length, flips-le}
@@ -30,18 +30,18 @@ plain-le : (x f : ℕ) → x ≤ 2 → f ≤ 1 → cond (eqb x 2) 2 (bitXor x f)
 plain-le x f hx hf = leb→le _ _ (grid 3 2 (λ x f. leb (cond (eqb x 2) 2 (bitXor x f)) 2) tt x f (omega arith) (omega arith))
 
 module _ (v mask : ℕ) (m : List ℕ) (least : 1 ≤ v) (most : v ≤ lastVersion) where
-  flip-at : (p : ℕ) → p < side v * side v → bitOf (getD (map (rowFlips mask) (upTo mostSide)) (p / side v) 0) (p % side v) ≡ flips mask (p / side v) (p % side v)
-  flip-at p h =
+  flip-at : (rows : List ℕ) → ((i : ℕ) → i < side v → getD rows i 0 ≡ rowFlips mask i) → (p : ℕ) → p < side v * side v → bitOf (getD rows (p / side v) 0) (p % side v) ≡ flips mask (p / side v) (p % side v)
+  flip-at rows stand p h =
       let row : p / side v < side v = div-lt-iff-lt-mul {k = side v} {x = p} {y = side v} (omega arith) .1 h in
       let column : p % side v < side v = mod-lt p (omega arith) in
-      rw (getD-map-upTo (rowFlips mask) mostSide (p / side v) 0 (omega arith)) (row-flips-bit mask (p / side v) (p % side v) (omega arith))
+      rw (stand (p / side v) row) (row-flips-bit mask (p / side v) (p % side v) (omega arith))
 
-  pub received-passed : passed v (map (rowFlips mask) (upTo mostSide)) m (side v * (side v - 1)) ≡ received v mask m
+  pub received-passed : (rows : List ℕ) → ((i : ℕ) → i < side v → getD rows i 0 ≡ rowFlips mask i) → passed v rows m (side v * (side v - 1)) ≡ received v mask m
   unfolding passed received order unmasked plain
-  received-passed =
-      map-same (plainAt v (map (rowFlips mask) (upTo mostSide)) m) (unmasked v mask m) (order v)
+  received-passed rows stand =
+      map-same (plainAt v rows m) (unmasked v mask m) (order v)
       (λ k h. let p : ℕ = getD (order v) k 0 in
-      ap (λ (f : ℕ). cond (eqb (getD m p 0) 2) 2 (bitXor (getD m p 0) f)) (flip-at p (placed-once v least most .inside k h)))
+      ap (λ (f : ℕ). cond (eqb (getD m p 0) 2) 2 (bitXor (getD m p 0) f)) (flip-at rows stand p (placed-once v least most .inside k h)))
 
   pub received-length : length (received v mask m) ≡ 8 * total v + surplus v
   unfolding received

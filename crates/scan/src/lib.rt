@@ -1,9 +1,9 @@
 // What a matrix holds, as it was read: the copies of the words, and the codewords with their flags. A module is 0 light, 1 dark, 2 unreadable.
 ghost use mathlib.Core.Path.{_≡_};
 ghost use mathlib.Core.List.{map};
-ghost use Prim.Native.Nat.{_+_, _-_, _*_, _^_, _≤_, _<_};
+ghost use Prim.Native.Nat.{ℕ, _+_, _-_, _*_, _^_, _≤_, _<_};
 ghost use lib.Dec.{eqb, ltb};
-ghost use lib.ListN.{length, take};
+ghost use lib.ListN.{length, getD, take};
 ghost use Rattle.basics.specs.Sums.{one};
 ghost use Rattle.basics.specs.Lists.{upTo, AtMost};
 ghost use Rattle.tables.specs.Tables.{side as sideOf, total as totalOf, lastVersion, mostSide};
@@ -133,14 +133,14 @@ fn walk(m: &[u8], kinds: &[u8], rows: &[u64], v: usize, out: &mut [u8]) -> usize
     n
 }
 
-// Where a mask flips each row.
-fn flip_rows(mask: usize) -> [u64; MOST_SIDE]
-    requires { ⌜ mask < 8 ⌝ }
-    ensures { λ r. ⌜ r ≡ map (rowFlips mask) (upTo mostSide) ⌝ }
+// Where a mask flips each of the first s rows.
+fn flip_rows(mask: usize, s: usize) -> [u64; MOST_SIDE]
+    requires { ⌜ (mask < 8) × (s ≤ mostSide) ⌝ }
+    ensures { λ r. ⌜ (length r ≡ mostSide) × ((i : ℕ) → i < s → getD r i 0 ≡ rowFlips mask i) ⌝ }
 {
     let mut rows = [0u64; MOST_SIDE];
     let mut i: usize = 0;
-    while i < MOST_SIDE {
+    while i < s {
         rows[i] = modules::row_flips(mask, i);
         i += 1;
     }
@@ -155,7 +155,7 @@ fn gather(m: &[u8], v: usize, mask: usize, out: &mut [u8]) -> usize
 {
     let mut kinds = [0u8; MOST_MODULES];
     modules::kinds(v, &mut kinds);
-    let rows = flip_rows(mask);
+    let rows = flip_rows(mask, tables::side(v));
     walk(m, &kinds, &rows, v, out)
 }
 

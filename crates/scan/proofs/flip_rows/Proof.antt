@@ -1,22 +1,23 @@
 -- `scan::flip_rows` meets its contract. The loop's invariant: the first i rows stand.
 -- Assumes nothing.
-use mathlib.Core.Path.{_≡_, refl, _∙_}
+use mathlib.Core.Path.{_≡_, refl, sym, ap, _∙_}
+use mathlib.Core.List.{List}
 use Prim.Native.Nat.{ℕ, _+_, _-_, _≤_, _<_}
 use native.Mathlib.Omega.{arith}
-use lib.ListN.{length, take, length-set, length-replicate}
+use lib.ListN.{length, getD, take, length-set, length-replicate}
+use lib.Seq.{getD-take}
 use borrow.Author.Needs.{needs}
 use Rattle.basics.specs.Build.{build}
-use Rattle.basics.proofs.Build.{build-put, build-all}
-use Rattle.basics.proofs.Lists.{build-upTo}
+use Rattle.basics.proofs.Build.{build-put, build-get}
 use Rattle.modules.specs.Kinds.{rowFlips}
 use Rattle.scan.proofs.flip_rows.Statement.{statement}
 use Rattle.scan.proofs.flip_rows.Tie as tie
 
 abbrev Inv-loop : tie.InvT-loop
-Inv-loop mask rows₀ i₀ rows i = (i ≤ 57) × (length rows ≡ 57) × (take i rows ≡ build (rowFlips mask) i)
+Inv-loop mask s rows₀ i₀ rows i = (i ≤ s) × (length rows ≡ 57) × (take i rows ≡ build (rowFlips mask) i)
 
 abbrev μ-loop : tie.MeasureT-loop
-μ-loop mask rows₀ i₀ rows i = 57 - i
+μ-loop mask s rows₀ i₀ rows i = s - i
 
 loop-holds : tie.Need-loop-holds Inv-loop μ-loop
 unfolding build
@@ -48,9 +49,11 @@ loop-again c =
 returns : tie.Need-returns Inv-loop μ-loop
 returns c =
     let l = c .before .loop in
-    let f = rowFlips (c .before .before .args .mask) in
-    let done : l .i ≡ 57 = omega arith in
-    build-all f (l .rows) 57 (l .inv .1) (rw done at (l .inv .2)) ∙ build-upTo f 57
+    let f = rowFlips (c .before .before .args .mask) in (
+      l .inv .1,
+      λ i h. let there : i < l .i = omega arith in
+          sym (getD-take (l .i) (l .rows) i 0 there) ∙ ap (λ (xs : List ℕ). getD xs i 0) (l .inv .2) ∙ build-get f (l .i) i there,
+    )
 
 pub flip-rows-spec : {M : Type 1} → statement M
 flip-rows-spec =

@@ -24,6 +24,9 @@ slice-aggregate-kinds c = search needs
 kinds-requires : tie.Need-kinds-requires
 kinds-requires c κs = let a = c .before .before .before in (a .pre .0 .0, (a .pre .0 .1 .0, side-most (a .args .v) (a .pre .0 .1 .0)))
 
+side-requires : tie.Need-side-requires
+side-requires c κs = search needs
+
 flip-rows-requires : tie.Need-flip-rows-requires
 flip-rows-requires c κs = search needs
 
@@ -35,14 +38,14 @@ slice-aggregate-walk-2 c = search needs
 
 walk-requires : tie.Need-walk-requires
 walk-requires c κs =
-    let a = c .before .before .before .before .before .before .before .before .before in
+    let a = c .before .before .before .before .before .before .before .before .before .before in
     let v : ℕ = a .args .v in
     record {
       least = a .pre .0 .0;
       most = a .pre .0 .1 .0;
       matrix = a .pre .1 .0;
-      map = subst⁻¹ (λ (k : List ℕ). DataMap v k) (c .before .before .before .before .before .kinds2 .ensures) (kinds-map v _);
-      flips = omega (arith, ap length (c .before .before .before .flip-rows .ensures), length-map-upTo (rowFlips (a .args .mask)) mostSide);
+      map = subst⁻¹ (λ (k : List ℕ). DataMap v k) (c .before .before .before .before .before .before .kinds2 .ensures) (kinds-map v _);
+      flips = omega (arith, c .before .before .before .flip-rows .ensures .0);
       enough = a .pre .1 .1;
     }
 
@@ -51,15 +54,17 @@ same-length c = search needs
 
 returns : tie.Need-returns
 returns c =
-    let a = c .before .before .before .before .before .before .before .before .before .before .before .before in
+    let a = c .before .before .before .before .before .before .before .before .before .before .before .before .before in
     let v : ℕ = a .args .v in
     let m = a .args .m .now in
     let w = c .before .before .walk .ensures in
+    let f = c .before .before .before .before .before .before .flip-rows .ensures .1 in
+    let sized = c .before .before .before .before .before .before .before .side .ensures in
     let fewer : side v * (side v - 1) ≤ side v * side v = mul-le-mul-left (side v) (omega arith) in (
       w .0,
       (
         le-trans (w .1 .few) (le-trans fewer (a .pre .1 .1)),
-        w .1 .front ∙ ap (λ (r : List ℕ). passed v r m (side v * (side v - 1))) (c .before .before .before .before .before .before .flip-rows .ensures) ∙ received-passed v (a .args .mask) m (a .pre .0 .0) (a .pre .0 .1 .0),
+        w .1 .front ∙ received-passed v (a .args .mask) m (a .pre .0 .0) (a .pre .0 .1 .0) _ (λ i h. f i (omega (arith, sized))),
       ),
     )
 
@@ -69,6 +74,7 @@ gather-spec =
     (tie.spec
     slice-aggregate-kinds
     kinds-requires
+    side-requires
     flip-rows-requires
     slice-aggregate-walk
     slice-aggregate-walk-2
