@@ -1,11 +1,12 @@
--- The windows of a line: a window that differs from both patterns at one place is neither; a line too short for a window adds nothing.
+-- The windows of a line: a window that differs from both patterns at one place, or is equal at two where they are not, is neither; a line too short for a window adds nothing.
 -- Assumes nothing.
 use mathlib.Core.Path.{_≡_, refl, sym, ap, _∙_}
+use mathlib.Core.Logic.{by-cases}
 use mathlib.Core.Bool.{Bool, true, false, cond, _&&_, _||_}
 use mathlib.Core.List.{List, [], _∷_}
 use Prim.Native.Nat.{ℕ, zero, suc, _+_, _-_, _*_, _<_, _≤_}
 use native.Mathlib.Nat.{not-suc-le-zero, le-of-suc-le-suc, zero-add}
-use native.Mathlib.Decide.{decLt}
+use native.Mathlib.Decide.{ℕ-discrete, decLt}
 use native.Mathlib.Omega.{arith}
 use borrow.Author.Tests.{ne-eqb, eqb-true}
 use lib.Dec.{eqb}
@@ -33,6 +34,9 @@ differs [] (y ∷ ys) k h = refl
 differs (x ∷ xs) [] k h = refl
 differs (x ∷ xs) (y ∷ ys) zero h = rw (ne-eqb x y h)
 differs (x ∷ xs) (y ∷ ys) (suc k) h = rw (differs xs ys k h) (and-false (eqb x y))
+
+pub differs-in-two : (xs ys : List ℕ) (j k : ℕ) → getD xs j 0 ≡ getD xs k 0 → (getD ys j 0 ≡ getD ys k 0 → ⊥) → same xs ys ≡ false
+differs-in-two xs ys j k e n = by-cases (ℕ-discrete (getD xs j 0) (getD ys j 0)) (λ p. differs xs ys k (λ q. n (sym p ∙ e ∙ q))) (λ p. differs xs ys j p)
 
 pub not-like : (w : List ℕ) (k : ℕ) → (getD w k 0 ≡ getD (getD patterns 0 []) k 0 → ⊥) → (getD w k 0 ≡ getD (getD patterns 1 []) k 0 → ⊥) → finderLike w ≡ false
 unfolding finderLike
@@ -82,3 +86,13 @@ unfolding windowAt
 window-off m start stride k v h a b n =
     let e = getD-line m start stride 11 k h in
     rw (not-like (line m start stride 11) k (λ p. n (sym e ∙ p ∙ a)) (λ p. n (sym e ∙ p ∙ b)))
+
+-- a window whose modules j and k are equal, where each pattern has them different, adds nothing
+pub window-alike : (m : List ℕ) (start stride j k : ℕ) → j < 11 → k < 11
+    → (getD (getD patterns 0 []) j 0 ≡ getD (getD patterns 0 []) k 0 → ⊥) → (getD (getD patterns 1 []) j 0 ≡ getD (getD patterns 1 []) k 0 → ⊥)
+    → getD m (start + j * stride) 0 ≡ getD m (start + k * stride) 0 → windowAt m start stride ≡ 0
+unfolding windowAt finderLike
+window-alike m start stride j k hj hk a b e =
+    let w = line m start stride 11 in
+    let q : getD w j 0 ≡ getD w k 0 = getD-line m start stride 11 j hj ∙ e ∙ sym (getD-line m start stride 11 k hk) in
+    rw (differs-in-two w (getD patterns 0 []) j k q a, differs-in-two w (getD patterns 1 []) j k q b)

@@ -60,7 +60,7 @@ fn window(m: &[u8], start: usize, stride: usize) -> [u8; 11]
     w
 }
 
-// What the window at start adds. In both patterns modules 1 and 9 are light: a window that differs there is neither.
+// What the window at start adds. In both patterns modules 1 and 9 are light, and one of modules 3 and 7 is dark: a window that differs there is neither.
 fn window_score(m: &[u8], start: usize, stride: usize) -> u32
     requires { ⌜ (stride ≤ 64) × (start + 10 * stride < length (now m)) ⌝ }
     ensures { λ r. ⌜ r ≡ windowAt (now (m .entry)) start stride ⌝ }
@@ -69,6 +69,9 @@ fn window_score(m: &[u8], start: usize, stride: usize) -> u32
         return 0;
     }
     if m[start + stride] != 0 {
+        return 0;
+    }
+    if m[start + 3 * stride] == m[start + 7 * stride] {
         return 0;
     }
     if finder_like(window(m, start, stride)) {

@@ -7,7 +7,7 @@ use native.Mathlib.Omega.{arith}
 use lib.ListN.{getD}
 use Rattle.penalty.specs.Penalty.{finderLike, patterns}
 use Rattle.penalty.specs.Lines.{windowAt}
-use Rattle.penalty.proofs.Windows.{window-off}
+use Rattle.penalty.proofs.Windows.{window-off, window-alike}
 use borrow.Author.Needs.{needs}
 use Rattle.penalty.proofs.window_score.Statement.{statement}
 use Rattle.penalty.proofs.window_score.Tie as tie
@@ -37,19 +37,41 @@ returns-2 c =
     let a = c .before .before .before .before .before .args in
     sym (window-off (a .m .now) (a .start) (a .stride) 1 0 (omega arith) refl refl (λ e. c .if2 .taken (ap (λ (p : ℕ). getD (a .m .now) (a .start + p) 0) (sym (one-mul (a .stride))) ∙ e)))
 
+mul-if3 : tie.Need-mul-if3
+mul-if3 c = search needs
+
+add-if3 : tie.Need-add-if3
+add-if3 c = search needs
+
+shared-slice-read-if3 : tie.Need-shared-slice-read-if3
+shared-slice-read-if3 c = search needs
+
+mul-if3-2 : tie.Need-mul-if3-2
+mul-if3-2 c = search needs
+
+add-if3-2 : tie.Need-add-if3-2
+add-if3-2 c = search needs
+
+shared-slice-read-if3-2 : tie.Need-shared-slice-read-if3-2
+shared-slice-read-if3-2 c = search needs
+
+returns-3 : tie.Need-returns-3
+unfolding patterns
+returns-3 c = sym (window-alike _ _ _ 3 7 (omega arith) (omega arith) (λ e. omega (arith, e)) (λ e. omega (arith, e)) (c .if3 .taken))
+
 window-requires : tie.Need-window-requires
 window-requires c κs = search needs
 
 finder-like-requires : tie.Need-finder-like-requires
 finder-like-requires c κs = search needs
 
-returns-3 : tie.Need-returns-3
-unfolding windowAt
-returns-3 c = rw (ap finderLike (sym (c .before .before .window .ensures)) ∙ sym (c .before .finder-like .ensures) ∙ c .if3 .taken)
-
 returns-4 : tie.Need-returns-4
 unfolding windowAt
-returns-4 c = rw (ap finderLike (sym (c .before .before .window .ensures)) ∙ sym (c .before .finder-like .ensures) ∙ c .if3 .left)
+returns-4 c = rw (ap finderLike (sym (c .before .before .window .ensures)) ∙ sym (c .before .finder-like .ensures) ∙ c .if4 .taken)
+
+returns-5 : tie.Need-returns-5
+unfolding windowAt
+returns-5 c = rw (ap finderLike (sym (c .before .before .window .ensures)) ∙ sym (c .before .finder-like .ensures) ∙ c .if4 .left)
 
 pub window-score-spec : {M : Type 1} → statement M
 window-score-spec =
@@ -62,7 +84,14 @@ window-score-spec =
     add-if2
     shared-slice-read-if2
     returns-2
+    mul-if3
+    add-if3
+    shared-slice-read-if3
+    mul-if3-2
+    add-if3-2
+    shared-slice-read-if3-2
+    returns-3
     window-requires
     finder-like-requires
-    returns-3
-    returns-4)
+    returns-4
+    returns-5)
