@@ -22,12 +22,12 @@ abbrev pub gives : (found named : List ℕ) → Example
 gives f n = record { found = f; named = n }
 
 -- the refusal of so many digits at 10-L, or 0
-unfoldable pub digits : ℕ → ℕ
-digits n = refusal (request (replicate n 48) (1 ∷ n ∷ []) 0 10 8) 3249
+unfoldable pub refusedDigits : ℕ → ℕ
+refusedDigits n = refusal (request (replicate n 48) (1 ∷ n ∷ []) 0 10 8) 3249
 
 -- a line with a run of r dark modules between light ones
-unfoldable pub line : ℕ → List ℕ
-line r = 0 ∷ replicate r 1 ++ (0 ∷ [])
+unfoldable pub lineOf : ℕ → List ℕ
+lineOf r = 0 ∷ replicate r 1 ++ (0 ∷ [])
 
 -- EC 11, n times
 unfoldable pub padPairs : ℕ → List ℕ
@@ -38,7 +38,7 @@ unfolding padPairs
 a-data = 0x10 ∷ 0x20 ∷ 0x0C ∷ 0x56 ∷ 0x61 ∷ 0x80 ∷ padPairs 5
 
 unfoldable pub examples : List Example
-unfolding digits line padPairs a-data
+unfolding refusedDigits lineOf padPairs a-data
 examples =
     -- a. 1-M, numeric 01234567: data 10 20 0C 56 61 80 EC 11 .., checks A5 24 D4 C1 ED 36 C7 87 2C 55
     gives (dataCodewords 1 1 (1 ∷ 8 ∷ []) (48 ∷ 49 ∷ 50 ∷ 51 ∷ 52 ∷ 53 ∷ 54 ∷ 55 ∷ [])) a-data
@@ -58,9 +58,9 @@ examples =
     -- h. Level L: 17 bytes take version 1, 18 take version 2
     ∷ gives (taken 0 0 (4 ∷ 17 ∷ []) ∷ taken 0 0 (4 ∷ 18 ∷ []) ∷ []) (1 ∷ 2 ∷ [])
     -- i. 10-L: 652 digits fit, 653 get refusal 5
-    ∷ gives (digits 652 ∷ digits 653 ∷ []) (0 ∷ 5 ∷ [])
+    ∷ gives (refusedDigits 652 ∷ refusedDigits 653 ∷ []) (0 ∷ 5 ∷ [])
     -- j. Runs of 4, 5, 6 score 0, 3, 4; a 3 by 3 dark square has four 2 by 2 squares, 12
-    ∷ gives (runs (line 4) ∷ runs (line 5) ∷ runs (line 6) ∷ squares 3 (replicate 3 (replicate 3 1)) ∷ []) (0 ∷ 3 ∷ 4 ∷ 12 ∷ [])
+    ∷ gives (runs (lineOf 4) ∷ runs (lineOf 5) ∷ runs (lineOf 6) ∷ squares 3 (replicate 3 (replicate 3 1)) ∷ []) (0 ∷ 3 ∷ 4 ∷ 12 ∷ [])
     -- k. Side 25: 374 dark add 10, 375 add 20
     ∷ gives (share 25 374 ∷ share 25 375 ∷ []) (10 ∷ 20 ∷ [])
     -- l. 2 · 128 = 29 in the field

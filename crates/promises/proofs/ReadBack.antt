@@ -28,7 +28,7 @@ use Rattle.writer.proofs.Fit.{fit-rule}
 use Rattle.reader.specs.Reader.{Read, Reads, blockWord, blockFlags}
 use Rattle.promises.specs.Promises.{Bytes, LargeEnough, Damaged, Survives, ReadBack, lost}
 use Rattle.promises.proofs.Damage.{Holds}
-use Rattle.promises.proofs.Damage as damage
+use Rattle.promises.proofs.Damage as kept
 use Rattle.promises.proofs.Drawn.{block-codeword, word-dealt, data-dealt, formats-dealt, versions-dealt, none-lost, none-wrong, format-kept, version-kept}
 
 -- a test that never fails passes
@@ -100,11 +100,11 @@ module _ (r : Request) (out v mask : ℕ) (modules : List ℕ) (bytes : Bytes r)
       low : AtMost 1 modules
       low = drawn-modules r out v mask modules drawn .1
 
-pub survives : Survives
-survives = damage.survives holds
+pub damage : Survives
+damage = kept.survives holds
 
 pub read-back : ReadBack
 read-back r out v mask payloadRoom listRoom modules bytes room drawn =
     subst₂ (λ (t e : ℕ). Reads modules payloadRoom listRoom (Read v (r .level) mask (r .payload) (r .list) t e))
     (sum-zero _ _ (λ b h. none-wrong _ _)) (sum-zero _ _ (λ b h. drawn-lost r out v mask modules bytes drawn b h))
-    (survives r out v mask payloadRoom listRoom modules modules bytes room drawn (undamaged r out v mask modules bytes drawn))
+    (damage r out v mask payloadRoom listRoom modules modules bytes room drawn (undamaged r out v mask modules bytes drawn))
