@@ -37,7 +37,11 @@ fn read_back(modules: &[u8], payload: &[u8]) {
     let mut bytes = [0u8; 652];
     let mut list = [0u16; 308];
     match reader::read(modules, &mut bytes, &mut list) {
-        Answered::Refused(_) => say(b"refused\n"),
+        Answered::Refused(k) => {
+            say(b"refused ");
+            io::print_decimal(STDOUT_FILENO, k as u64);
+            say(b"\n");
+        }
         Answered::Read(r) => {
             if front_same(&bytes, r.payload, payload) {
                 say(b"read back\n");
@@ -100,26 +104,117 @@ fn try_one(file: &[u8], at: usize) -> usize
     e
 }
 
-// The first modules of the first nine codewords of a symbol of version 1.
-const PLACES: [usize; 9] = [440, 356, 272, 207, 291, 375, 436, 352, 268];
-
-// A 1-L symbol with so many codewords wrong and so many unreadable.
-fn spoilt(wrong: usize, lost: usize) -> [u8; 441]
-    requires { ⌜ wrong + lost ≤ 9 ⌝ }
+// Each symbol of the file.
+fn try_all(file: &[u8])
+    requires { ⌜ length (now file) ≤ 65536 ⌝ }
 {
-    let mut m = [0u8; 441];
-    let list = [2u16, 13];
-    writer::write(b"LOOP 7 SP 124", &list, 0, 1, 2, &mut m);
-    let n = wrong + lost;
-    let mut k: usize = 0;
-    while k < n {
-        let p = PLACES[k];
-        if p < 441 {
-            m[p] = if k < wrong { m[p] ^ 1 } else { 2 };
+    let mut at: usize = 0;
+    let mut turn: usize = 0;
+    while turn < SYMBOLS {
+        at = try_one(file, at);
+        turn += 1;
+    }
+}
+
+// Turns a module over, or makes it unreadable.
+fn touch_one(m: &mut [u8], p: usize, over: bool) {
+    if p < m.len() {
+        if over {
+            m[p] = m[p] ^ 1;
+        } else {
+            m[p] = 2;
         }
+    }
+}
+
+// Turns over the modules at the first places, so many of them, and makes those at the others unreadable.
+fn touch(m: &mut [u8], places: &[usize], turned: usize) {
+    let mut k: usize = 0;
+    while k < places.len() {
+        touch_one(m, places[k], k < turned);
         k += 1;
     }
-    m
+}
+
+// Draws a symbol of this version and size at level L, touches it and reads it.
+fn attempt(text: &[u8], version: usize, size: usize, places: &[usize], turned: usize)
+    requires { ⌜ size ≤ 3249 ⌝ }
+{
+    let mut m = [0u8; 3249];
+    let list = [2u16, 13];
+    writer::write(b"LOOP 7 SP 124", &list, 0, version, 2, &mut m);
+    touch(&mut m, places, turned);
+    say(text);
+    read_back(&m[..size], b"LOOP 7 SP 124");
+}
+
+// At version 1: the first modules of the first nine codewords.
+const CODEWORDS: [usize; 9] = [440, 356, 272, 207, 291, 375, 436, 352, 268];
+
+// Seven places of each format copy.
+const FORMATS: [usize; 14] = [
+    8,
+    29,
+    50,
+    71,
+    92,
+    113,
+    155,
+    188,
+    187,
+    186,
+    185,
+    184,
+    183,
+    182,
+];
+
+// The places of a format copy where the words of masks 2 and 3 differ.
+const OTHER_MASK: [usize; 7] = [188, 187, 186, 184, 183, 302, 344];
+
+// At version 7: the places of a version copy where the words of versions 7 and 8 differ.
+const OTHER_VERSION: [usize; 8] = [79, 81, 126, 171, 214, 215, 216, 259];
+
+// A block at its bound and past it.
+fn block_bounds() {
+    let at = CODEWORDS;
+    attempt(b"7 unreadable: ", 1, 441, &at[..7], 0);
+    attempt(b"8 unreadable: ", 1, 441, &at[..8], 0);
+    attempt(b"3 wrong, 1 unreadable: ", 1, 441, &at[..4], 3);
+    attempt(b"3 wrong, 2 unreadable: ", 1, 441, &at[..5], 3);
+    attempt(b"4 wrong: ", 1, 441, &at[..4], 4);
+}
+
+// Format copies at their bounds and past them.
+fn format_bounds() {
+    let at = FORMATS;
+    let other = OTHER_MASK;
+    attempt(b"3 flips in a format copy: ", 1, 441, &at[..3], 3);
+    attempt(
+        b"2 flips, 2 unreadable in a format copy: ",
+        1,
+        441,
+        &at[..4],
+        2,
+    );
+    attempt(
+        b"7 unreadable in one, 6 in the other: ",
+        1,
+        441,
+        &at[..13],
+        0,
+    );
+    attempt(b"7 unreadable in both: ", 1, 441, &at[..14], 0);
+    attempt(b"a format copy of another mask: ", 1, 441, &other[..7], 7);
+}
+
+// Version copies at their bounds and past them.
+fn version_bounds() {
+    let at = OTHER_VERSION;
+    attempt(b"3 flips in a version copy: ", 7, 2025, &at[..3], 3);
+    attempt(b"4 flips in a version copy: ", 7, 2025, &at[..4], 4);
+    attempt(b"3 flips from another version: ", 7, 2025, &at[..5], 5);
+    attempt(b"a version copy of another version: ", 7, 2025, &at[..8], 8);
 }
 
 fn main() {
@@ -132,27 +227,9 @@ fn main() {
     let n = io::read_full(fd, &mut file);
     libc::close(fd);
     if n <= 65536 {
-        let mut at: usize = 0;
-        let mut turn: usize = 0;
-        while turn < SYMBOLS {
-            at = try_one(&file[..n], at);
-            turn += 1;
-        }
+        try_all(&file[..n]);
     }
-    say(b"7 unreadable: ");
-    read_back(&spoilt(0, 7), b"LOOP 7 SP 124");
-    say(b"8 unreadable: ");
-    read_back(&spoilt(0, 8), b"LOOP 7 SP 124");
-    say(b"3 wrong, 1 unreadable: ");
-    read_back(&spoilt(3, 1), b"LOOP 7 SP 124");
-    say(b"3 wrong, 2 unreadable: ");
-    read_back(&spoilt(3, 2), b"LOOP 7 SP 124");
-    say(b"4 wrong: ");
-    read_back(&spoilt(4, 0), b"LOOP 7 SP 124");
-    let mut m = spoilt(0, 0);
-    m[8] = m[8] ^ 1;
-    m[29] = m[29] ^ 1;
-    m[50] = m[50] ^ 1;
-    say(b"3 flips in a format copy: ");
-    read_back(&m, b"LOOP 7 SP 124");
+    block_bounds();
+    format_bounds();
+    version_bounds();
 }
