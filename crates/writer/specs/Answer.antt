@@ -14,7 +14,7 @@ use Rattle.penalty.specs.Penalty.{score, leastPlace}
 use Rattle.writer.specs.declared.Checked.{Checked}
 use Rattle.writer.specs.declared.Drawing as declared
 use Rattle.writer.specs.declared.Drawing.the-variants as answers
-use Rattle.writer.specs.Writer.{Request, Drawing, Drawn, Refused, DrawnNumbers, taken, refusal, chosen, draw, outputAfter}
+use Rattle.writer.specs.Writer.{Request, Drawing, Drawn, Refused, taken, refusal, chosen, draw, outputAfter}
 
 -- the refusal of a request for `out` bytes of output, and the version taken where there is none
 pub record Checks (r : Request) (out : ℕ) (c : Checked) : Type 0 where
@@ -68,11 +68,6 @@ pub record DrawsAt (v level mask : ℕ) (cs out : List ℕ) (drawn : ℕ) (after
 abbrev pub answer : Drawing → declared.Drawing
 answer (Drawn v mask modules) = answers.Drawn (record { version = v; mask = mask; side = side v })
 answer (Refused n) = answers.Refused n
-
--- the paper's numbers for each case: "A refusal carries its number and zeros"
-abbrev pub numbers : declared.Drawing → DrawnNumbers
-numbers (answers.Drawn s) = record { refusal = 0; version = s .version; mask = s .mask; side = s .side }
-numbers (answers.Refused n) = record { refusal = n; version = 0; mask = 0; side = 0 }
 
 -- what `write` answers and what the output then holds, refused or not
 pub record Writes (r : Request) (out : List ℕ) (a : declared.Drawing) (after : List ℕ) : Type 0 where

@@ -82,14 +82,3 @@ draw r out = answered (refusal r out) (drawAt (taken (r .level) (r .version) (r 
 abbrev pub outputAfter : Drawing → (out : List ℕ) → List ℕ
 outputAfter (Drawn v mask modules) out = modules ++ drop (length modules) out
 outputAfter (Refused n) out = out
-
--- "Its answer: version, mask, side"; "A refusal carries its number and zeros": refusal, version, mask, side
-pub record DrawnNumbers : Type 0 where
-  pub refusal : ℕ
-  pub version : ℕ
-  pub mask : ℕ
-  pub side : ℕ
-
-abbrev pub drawnNumbers : Drawing → DrawnNumbers
-drawnNumbers (Drawn v m modules) = record { refusal = 0; version = v; mask = m; side = sideOf v }
-drawnNumbers (Refused n) = record { refusal = n; version = 0; mask = 0; side = 0 }
