@@ -1,0 +1,237 @@
+-- The reader's refusals are 7 to 16, each exactly where the paper says so: a check's number is no later check's, and the stream's faults are 13 to 15.
+-- Assumes nothing.
+use mathlib.Core.Path.{_≡_, refl, sym, ap, _∙_}
+use mathlib.Core.Logic.{_≢_, inl, inr}
+use mathlib.Core.Bool.{Bool, true, false, cond}
+use mathlib.Core.List.{List}
+use Prim.Native.Nat.{ℕ, zero, suc, _+_, _≤_, _<_}
+use native.Mathlib.Omega.{arith}
+use lib.Dec.{leb}
+use lib.ListN.{length, take, drop}
+use Rattle.basics.specs.Bits.{byteBits, number}
+use Rattle.tables.specs.Tables.{countWidth}
+use Rattle.stream.specs.Stream.{known, bodyWidth}
+use Rattle.parse.specs.Parse.{Front, End, Segment, Refusal, demand, inRange, headWidth, segment, ends, front, Parsed, Message, Fault, inFront, parse, message}
+use Rattle.parse.proofs.Front.{parse-segment, parse-refusal, parse-end}
+use Rattle.blocks.specs.Blocks.{dataOf}
+use Rattle.scan.specs.Received.{received}
+use Rattle.reader.specs.Reader.{Answer, Refused, answer, First, Reads, Versioned, Formatted, Corrected, Small, NoVersion, Above, OtherVersion, NoFormat, TwoFormats, NoCodeword}
+use Rattle.reader.specs.Theorems.{ReaderNumbers, ReadsRefused, Sized, Plain, Named, Faulty}
+
+-- ---- the stream's faults
+
+abbrev InStream : ℕ → Type 0
+InStream k = (13 ≤ k) × (k ≤ 15)
+
+refusal-is : (n k : ℕ) → Refusal n ≡ Refusal k → InStream n → InStream k
+refusal-is n k e i = let q : n ≡ k = cc in (omega (arith, i .0), omega (arith, i .1))
+
+demanded : (known head body ranged : Bool) (mode count k : ℕ)
+    → demand known 13 (demand head 14 (demand body 14 (demand ranged 15 (Segment mode count)))) ≡ Refusal k → InStream k
+demanded false head body ranged mode count k e = refusal-is 13 k e (omega arith, omega arith)
+demanded true false body ranged mode count k e = refusal-is 14 k e (omega arith, omega arith)
+demanded true true false ranged mode count k e = refusal-is 14 k e (omega arith, omega arith)
+demanded true true true false mode count k e = refusal-is 15 k e (omega arith, omega arith)
+demanded true true true true mode count k e = absurd (let z : _≡_ {A = ℕ} 0 1 = cc in omega arith)
+
+not-end : (t : Bool) (f : Front) {k : ℕ} → cond t End f ≡ Refusal k → f ≡ Refusal k
+not-end true f e = absurd (let z : _≡_ {A = ℕ} 0 1 = cc in omega arith)
+not-end false f e = e
+
+front-number : (v k : ℕ) (bs : List ℕ) → front v bs ≡ Refusal k → InStream k
+unfolding front segment
+front-number v k bs e =
+    let m : ℕ = number (take 4 bs) in
+    let n : ℕ = number (take (countWidth v m) (drop 4 bs)) in
+    demanded (known m) (leb (headWidth v m) (length bs)) (leb (headWidth v m + bodyWidth m n) (length bs)) (inRange m n (drop (headWidth v m) bs)) m n k
+    (not-end (ends bs) (segment v m n bs) e)
+
+no-fault : (p l : List ℕ) (k : ℕ) → Message p l ≡ Fault k → ⊥
+no-fault p l k e = let z : _≡_ {A = ℕ} 0 1 = cc in omega arith
+
+behind : (mode count k : ℕ) (chars : List ℕ) (rest : Parsed) → inFront mode count chars rest ≡ Fault k → rest ≡ Fault k
+behind mode count k chars (Message p l) e = absurd (let z : _≡_ {A = ℕ} 0 1 = cc in omega arith)
+behind mode count k chars (Fault n) e = e
+
+parse-number : (fuel v k : ℕ) (bs : List ℕ) → parse fuel v bs ≡ Fault k → InStream k
+unfolding parse
+parse-number zero v k bs e = absurd (no-fault _ _ k e)
+parse-number (suc fuel) v k bs e = by-front (front v bs) refl (λ xs. parse-number fuel v k xs)
+  where
+    by-front : (f : Front) → front v bs ≡ f → ((xs : List ℕ) → parse fuel v xs ≡ Fault k → InStream k) → InStream k
+    by-front End f later = absurd (no-fault _ _ k (sym (parse-end (suc fuel) v bs f) ∙ e))
+    by-front (Segment mode count) f later = later _ (behind mode count k _ _ (sym (parse-segment fuel v bs mode count f) ∙ e))
+    by-front (Refusal n) f later =
+        let g : Fault n ≡ Fault k = sym (parse-refusal fuel v bs n f) ∙ e in
+        let q : n ≡ k = cc in
+        front-number v k bs (f ∙ ap Refusal q)
+
+message-number : (v k : ℕ) (codewords : List ℕ) → message v codewords ≡ Fault k → InStream k
+unfolding message
+message-number v k codewords e = parse-number (length (byteBits codewords)) v k (byteBits codewords) e
+
+-- ---- a check's own number, and the later ones
+
+same-number : (k n : ℕ) → Refused k ≡ Refused n → k ≡ n
+same-number k n e = cc
+
+-- the check with the number k refused, where no later one has it
+here : {F L : Type 0} {n : ℕ} (k : ℕ) → First F n (Refused k) L → (L → k ≢ n) → k ≡ n → F
+here k (inl p) later e = p .0
+here k (inr p) later e = absurd (later (p .1) e)
+
+-- another check refused
+past : {F L : Type 0} {n : ℕ} (k : ℕ) → First F n (Refused k) L → k ≢ n → (F → ⊥) × L
+past {n = n} k (inl p) d = absurd (d (same-number k n (p .1)))
+past k (inr p) d = p
+
+-- the numbers of a check and of those after it
+from : {F L : Type 0} {n : ℕ} (k : ℕ) → First F n (Refused k) L → n ≤ 15 → (L → (suc n ≤ k) × (k ≤ 15)) → (n ≤ k) × (k ≤ 15)
+from {n = n} k (inl p) h later = let e = same-number k n (p .1) in (omega arith, omega arith)
+from k (inr p) h later = let l = later (p .1) in (omega (arith, l .0), l .1)
+
+given : (v level mask t e k : ℕ) (p : Parsed) → Refused k ≡ answer v level mask t e p → p ≡ Fault k
+given v level mask t e k (Message q r) h = absurd (let z : _≡_ {A = ℕ} 0 1 = cc in omega arith)
+given v level mask t e k (Fault n) h = ap Fault (sym (same-number k n h))
+
+corrected-faulty : (v level mask k : ℕ) (bs : List ℕ) → Corrected v level mask bs (Refused k) → Faulty v level bs k
+corrected-faulty v level mask k bs c =
+    record { blocks = c .blocks; ts = c .ts; es = c .es; stand = c .stand; fault = given v level mask _ _ k _ (c .gives) }
+
+faulty-number : (v level k : ℕ) (bs : List ℕ) → Faulty v level bs k → InStream k
+faulty-number v level k bs f = message-number v k (dataOf v level (f .blocks)) (f .fault)
+
+module _ (m : List ℕ) (k : ℕ) where
+  formatted-number : (v : ℕ) → Formatted v m (Refused k) → (12 ≤ k) × (k ≤ 15)
+  formatted-number v f = from k (f .then) (omega arith) (λ c. faulty-number v (f .level) k _ (corrected-faulty v (f .level) (f .mask) k _ c))
+
+  from-eleven : (v : ℕ) → First (TwoFormats v m) 11 (Refused k) (Formatted v m (Refused k)) → (11 ≤ k) × (k ≤ 15)
+  from-eleven v f = from k f (omega arith) (formatted-number v)
+
+  from-ten : (v : ℕ) → First (NoFormat v m) 10 (Refused k) (First (TwoFormats v m) 11 (Refused k) (Formatted v m (Refused k))) → (10 ≤ k) × (k ≤ 15)
+  from-ten v f = from k f (omega arith) (from-eleven v)
+
+  from-nine : (v : ℕ) → First (OtherVersion v m) 9 (Refused k) (First (NoFormat v m) 10 (Refused k) (First (TwoFormats v m) 11 (Refused k) (Formatted v m (Refused k))))
+      → (9 ≤ k) × (k ≤ 15)
+  from-nine v f = from k f (omega arith) (from-ten v)
+
+  from-eight : Versioned m (Refused k) → (8 ≤ k) × (k ≤ 15)
+  from-eight p = from k (p .then) (omega arith) (from-nine (p .version))
+
+  from-seven : First (NoVersion m) 7 (Refused k) (Versioned m (Refused k)) → (7 ≤ k) × (k ≤ 15)
+  from-seven f = from k f (omega arith) from-eight
+
+pub reader-numbers : ReaderNumbers
+unfolding Reads
+reader-numbers m payloadRoom listRoom k (inl p) = let e = same-number k 16 (p .1) in (omega arith, omega arith)
+reader-numbers m payloadRoom listRoom k (inr p) = let l = from-seven m k (p .1) in (l .0, omega (arith, l .1))
+
+-- ---- each number where its check refuses
+
+module _ (m : List ℕ) (payloadRoom listRoom : ℕ) where
+  -- an answer that is given by the checks from 8 on
+  then-sized : (v : ℕ) (a : Answer) → Sized m payloadRoom listRoom v
+      → First (Above m) 8 a (First (OtherVersion v m) 9 a (First (NoFormat v m) 10 a (First (TwoFormats v m) 11 a (Formatted v m a))))
+      → Reads m payloadRoom listRoom a
+  unfolding Reads
+  then-sized v a s f = inr (s .large, inr (λ n. n v (s .square), record { version = v; sized = s .square; then = f }))
+
+  -- .. from 10 on
+  then-plain : (v : ℕ) (a : Answer) → Plain m payloadRoom listRoom v → First (NoFormat v m) 10 a (First (TwoFormats v m) 11 a (Formatted v m a))
+      → Reads m payloadRoom listRoom a
+  then-plain v a p f = then-sized v a (p .sized) (inr (p .low, inr (p .same, f)))
+
+  -- .. from 12 on
+  then-named : (v level mask : ℕ) (a : Answer) → Named m payloadRoom listRoom v level mask
+      → First (NoCodeword v level (received v mask m)) 12 a (Corrected v level mask (received v mask m) a) → Reads m payloadRoom listRoom a
+  then-named v level mask a n f =
+      then-plain v a (n .plain)
+      (inr (λ z. z (n .copy) level mask (n .stands), inr (n .one, record { copy = n .copy; level = level; mask = mask; stands = n .stands; then = f })))
+
+  module _ (k : ℕ) (r : Reads m payloadRoom listRoom (Refused k)) where
+    is-small : k ≡ 16 → Small payloadRoom listRoom
+    unfolding Reads
+    is-small e = here k r (λ l. let h = from-seven m k l in λ z. omega (arith, h .1)) e
+
+    not-small : k ≢ 16 → (Small payloadRoom listRoom → ⊥) × First (NoVersion m) 7 (Refused k) (Versioned m (Refused k))
+    unfolding Reads
+    not-small d = past k r d
+
+    versioned : k ≢ 16 → k ≢ 7 → (Small payloadRoom listRoom → ⊥) × Versioned m (Refused k)
+    versioned d e = let s = not-small d in (s .0, past k (s .1) e .1)
+
+    sized : (p : Versioned m (Refused k)) → (Small payloadRoom listRoom → ⊥) → Sized m payloadRoom listRoom (p .version)
+    sized p s = record { large = s; square = p .sized }
+
+    -- the checks up to 9 are passed
+    plain : 9 < k → k < 16
+        → (v : ℕ) × Plain m payloadRoom listRoom v × First (NoFormat v m) 10 (Refused k) (First (TwoFormats v m) 11 (Refused k) (Formatted v m (Refused k)))
+    plain h l =
+        let p = versioned (λ e. omega arith) (λ e. omega arith) in
+        let a = past k (p .1 .then) (λ e. omega arith) in
+        let b = past k (a .1) (λ e. omega arith) in
+        (p .1 .version, record { sized = sized (p .1) (p .0); low = a .0; same = b .0 }, b .1)
+
+    -- and up to 11
+    named : 11 < k → k < 16
+        → (v : ℕ) × (level : ℕ) × (mask : ℕ) × Named m payloadRoom listRoom v level mask
+        × First (NoCodeword v level (received v mask m)) 12 (Refused k) (Corrected v level mask (received v mask m) (Refused k))
+    named h l =
+        let p = plain (omega arith) l in
+        let a = past k (p .2) (λ e. omega arith) in
+        let b = past k (a .1) (λ e. omega arith) in
+        let f = b .1 in
+        (p .0, f .level, f .mask, record { plain = p .1; copy = f .copy; stands = f .stands; one = b .0 }, f .then)
+
+pub reads-refused : ReadsRefused
+unfolding Reads
+reads-refused m payloadRoom listRoom =
+    record {
+      sixteen = (λ r. is-small m payloadRoom listRoom 16 r refl, λ s. inl (s, refl));
+      seven = (
+        λ r. let s = not-small m payloadRoom listRoom 7 r (λ e. omega arith) in (s .0, here 7 (s .1) (λ l e. omega (arith, from-eight m 7 l .0)) refl),
+        λ s. inr (s .0, inl (s .1, refl)),
+      );
+      eight = (
+        λ r. let p = versioned m payloadRoom listRoom 8 r (λ e. omega arith) (λ e. omega arith) in
+            (p .1 .version, sized m payloadRoom listRoom 8 r (p .1) (p .0), here 8 (p .1 .then) (λ l e. omega (arith, from-nine m 8 (p .1 .version) l .0)) refl),
+        λ s. then-sized m payloadRoom listRoom (s .0) (Refused 8) (s .1) (inl (s .2, refl)),
+      );
+      nine = (
+        λ r. let p = versioned m payloadRoom listRoom 9 r (λ e. omega arith) (λ e. omega arith) in
+            let a = past 9 (p .1 .then) (λ e. omega arith) in
+            (p .1 .version, sized m payloadRoom listRoom 9 r (p .1) (p .0), a .0, here 9 (a .1) (λ l e. omega (arith, from-ten m 9 (p .1 .version) l .0)) refl),
+        λ s. then-sized m payloadRoom listRoom (s .0) (Refused 9) (s .1) (inr (s .2, inl (s .3, refl))),
+      );
+      ten = (
+        λ r. let p = plain m payloadRoom listRoom 10 r (omega arith) (omega arith) in
+            (p .0, p .1, here 10 (p .2) (λ l e. omega (arith, from-eleven m 10 (p .0) l .0)) refl),
+        λ s. then-plain m payloadRoom listRoom (s .0) (Refused 10) (s .1) (inl (s .2, refl)),
+      );
+      eleven = (
+        λ r. let p = plain m payloadRoom listRoom 11 r (omega arith) (omega arith) in
+            (p .0, p .1, here 11 (past 11 (p .2) (λ e. omega arith) .1) (λ l e. omega (arith, formatted-number m 11 (p .0) l .0)) refl),
+        λ s. let t = s .2 in then-plain m payloadRoom listRoom (s .0) (Refused 11) (s .1) (inr (λ n. n 0 (t .0) (t .1) (t .4), inl (t, refl))),
+      );
+      twelve = (
+        λ r. let n = named m payloadRoom listRoom 12 r (omega arith) (omega arith) in (
+          n .0,
+          n .1,
+          n .2,
+          n .3,
+          here 12 (n .4)
+              (λ c e. omega (arith, faulty-number (n .0) (n .1) 12 _ (corrected-faulty (n .0) (n .1) (n .2) 12 _ c) .0)) refl,
+        ),
+        λ s. then-named m payloadRoom listRoom (s .0) (s .1) (s .2) (Refused 12) (s .3) (inl (s .4, refl)),
+      );
+      stream = λ k l h. (
+        λ r. let n = named m payloadRoom listRoom k r (omega arith) (omega arith) in
+            (n .0, n .1, n .2, n .3, corrected-faulty (n .0) (n .1) (n .2) k _ (past k (n .4) (λ e. omega arith) .1)),
+        λ s. let f = s .4 in
+            then-named m payloadRoom listRoom (s .0) (s .1) (s .2) (Refused k) (s .3)
+            (inr (
+              λ n. n .2 (f .blocks (n .0)) (f .ts (n .0)) (f .es (n .0)) (f .stand (n .0) (n .1)),
+              record { blocks = f .blocks; ts = f .ts; es = f .es; stand = f .stand; gives = ap (answer (s .0) (s .1) (s .2) _ _) (sym (f .fault)) },
+            )),
+      );
+    }

@@ -1,0 +1,65 @@
+-- What is shown of the reader's answers beside the contract of `read`, each a statement with a name.
+-- Assumes nothing.
+use mathlib.Core.Path.{_≡_}
+use mathlib.Core.Logic.{_↔_}
+use mathlib.Core.List.{List}
+use Prim.Native.Nat.{ℕ, _≤_, _<_}
+use lib.ListN.{length}
+use Rattle.tables.specs.Tables.{blockCount}
+use Rattle.tables.specs.Version.{Square}
+use Rattle.parse.specs.Parse.{Fault, message}
+use Rattle.blocks.specs.Blocks.{dataOf}
+use Rattle.scan.specs.Received.{received}
+use Rattle.reader.specs.Reader.{Answer, Refused, Reads, Small, NoVersion, Above, OtherVersion, NoFormat, TwoFormats, NoCodeword, FormatStands, BlockStands}
+
+-- every matrix has an answer
+abbrev pub ReadsSome : Type 0
+ReadsSome = (m : List ℕ) (payloadRoom listRoom : ℕ) → (a : Answer) × Reads m payloadRoom listRoom a
+
+-- the reader's numbers are 7 to 16
+abbrev pub ReaderNumbers : Type 0
+ReaderNumbers = (m : List ℕ) (payloadRoom listRoom k : ℕ) → Reads m payloadRoom listRoom (Refused k) → (7 ≤ k) × (k ≤ 16)
+
+-- ---- each number exactly where the paper says so
+
+-- 16 and 7 are passed: the buffers are large enough, and the length is that of a version
+pub record Sized (m : List ℕ) (payloadRoom listRoom v : ℕ) : Type 0 where
+  pub large : Small payloadRoom listRoom → ⊥
+  pub square : Square (length m) v
+
+-- .. and 8 and 9
+pub record Plain (m : List ℕ) (payloadRoom listRoom v : ℕ) : Type 0 where
+  pub sized : Sized m payloadRoom listRoom v
+  pub low : Above m → ⊥
+  pub same : OtherVersion v m → ⊥
+
+-- .. and 10 and 11: a format copy stands for the level and the mask
+pub record Named (m : List ℕ) (payloadRoom listRoom v level mask : ℕ) : Type 0 where
+  pub plain : Plain m payloadRoom listRoom v
+  pub copy : ℕ
+  pub stands : FormatStands v m copy level mask
+  pub one : TwoFormats v m → ⊥
+
+-- .. and 12: every block stands for a codeword, and the stream of their data has a fault
+pub record Faulty (v level : ℕ) (bs : List ℕ) (k : ℕ) : Type 0 where
+  pub blocks : ℕ → List ℕ
+  pub ts : ℕ → ℕ
+  pub es : ℕ → ℕ
+  pub stand : (b : ℕ) → b < blockCount v level → BlockStands v level bs b (blocks b) (ts b) (es b)
+  pub fault : message v (dataOf v level blocks) ≡ Fault k
+
+pub record RefusedWith (m : List ℕ) (payloadRoom listRoom : ℕ) : Type 0 where
+  pub sixteen : Reads m payloadRoom listRoom (Refused 16) ↔ Small payloadRoom listRoom
+  pub seven : Reads m payloadRoom listRoom (Refused 7) ↔ ((Small payloadRoom listRoom → ⊥) × NoVersion m)
+  pub eight : Reads m payloadRoom listRoom (Refused 8) ↔ ((v : ℕ) × Sized m payloadRoom listRoom v × Above m)
+  pub nine : Reads m payloadRoom listRoom (Refused 9) ↔ ((v : ℕ) × Sized m payloadRoom listRoom v × (Above m → ⊥) × OtherVersion v m)
+  pub ten : Reads m payloadRoom listRoom (Refused 10) ↔ ((v : ℕ) × Plain m payloadRoom listRoom v × NoFormat v m)
+  pub eleven : Reads m payloadRoom listRoom (Refused 11) ↔ ((v : ℕ) × Plain m payloadRoom listRoom v × TwoFormats v m)
+  pub twelve : Reads m payloadRoom listRoom (Refused 12)
+      ↔ ((v : ℕ) × (level : ℕ) × (mask : ℕ) × Named m payloadRoom listRoom v level mask × NoCodeword v level (received v mask m))
+  -- 13 to 15
+  pub stream : (k : ℕ) → 13 ≤ k → k ≤ 15 → Reads m payloadRoom listRoom (Refused k)
+      ↔ ((v : ℕ) × (level : ℕ) × (mask : ℕ) × Named m payloadRoom listRoom v level mask × Faulty v level (received v mask m) k)
+
+abbrev pub ReadsRefused : Type 0
+ReadsRefused = (m : List ℕ) (payloadRoom listRoom : ℕ) → RefusedWith m payloadRoom listRoom
