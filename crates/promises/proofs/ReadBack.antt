@@ -32,7 +32,7 @@ use Rattle.promises.proofs.Damage as kept
 use Rattle.promises.proofs.Drawn.{block-codeword, word-dealt, data-dealt, formats-dealt, versions-dealt, none-lost, none-wrong, format-kept, version-kept}
 
 -- a test that never fails passes
-passes : (b : Bool) → (b ≡ false → ⊥) → b ≡ true
+pub passes : (b : Bool) → (b ≡ false → ⊥) → b ≡ true
 passes true h = refl
 passes false h = absurd (h refl)
 

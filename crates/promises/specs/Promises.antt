@@ -1,20 +1,21 @@
 -- What holds of writer and reader together, each demand as a statement with a name.
 -- Assumes nothing.
 use mathlib.Core.Path.{_≡_}
-use mathlib.Core.List.{List, List·Memᴰ}
-use Prim.Native.Nat.{ℕ, suc, _+_, _*_, _≤_, _<_}
+use mathlib.Core.Bool.{true}
+use mathlib.Core.List.{List, [], _∷_, List·Memᴰ}
+use Prim.Native.Nat.{ℕ, zero, suc, _+_, _*_, _≤_, _<_}
 use lib.ListN.{length, getD, take}
 use Rattle.basics.specs.Lists.{AtMost}
 use Rattle.basics.specs.Sums.{sum}
 use Rattle.tables.specs.Tables
 use Rattle.code.specs.Code.{differing, unreadable}
 use Rattle.words.specs.Words.{Near}
-use Rattle.stream.specs.Stream.{LawfulMessage}
+use Rattle.stream.specs.Stream.{LawfulMessage, lawfulList, fits}
 use Rattle.modules.specs.Modules.{order, formatPlaces, versionPlaces}
 use Rattle.scan.specs.Received.{copied, readable, received}
-use Rattle.writer.specs.Writer.{Request, Drawn, draw, refusal}
+use Rattle.writer.specs.Writer.{Request, request, Drawn, draw, refusal}
 use Rattle.writer.specs.Writer
-use Rattle.reader.specs.Reader.{Answer, Read, Refused, Reads, blockWord, blockFlags}
+use Rattle.reader.specs.Reader.{Answer, Read, Reads, blockWord, blockFlags}
 
 -- a payload of bytes, as the caller's types have it
 abbrev pub Bytes : Request → Type 0
@@ -94,6 +95,22 @@ pub record LawfulReading (v level mask : ℕ) (payload list : List ℕ) (t e : �
 abbrev pub ReadsLawful : Type 0
 ReadsLawful = (m : List ℕ) (payloadRoom listRoom v level mask t e : ℕ) (payload list : List ℕ)
     → Reads m payloadRoom listRoom (Read v level mask payload list t e) → LawfulReading v level mask payload list t e
+
+-- ---- "652 digits is the most that 10-L holds; 154 empty byte segments is the longest list (9-L)"
+
+-- so many empty byte segments
+unfoldable pub emptySegments : ℕ → List ℕ
+emptySegments zero = []
+emptySegments (suc n) = 4 ∷ 0 ∷ emptySegments n
+
+pub record LongestList : Type 0 where
+  -- 154 are drawn at 9-L
+  pub reached : (out mask : ℕ) → mask ≤ 8 → Tables.side 9 * Tables.side 9 ≤ out → refusal (request [] (emptySegments 154) 0 9 mask) out ≡ 0
+  -- 154 segments, of any modes and counts, fit at 9-L alone
+  pub alone : (v level : ℕ) (list : List ℕ) → Tables.Lawful v level → lawfulList list ≡ true → fits v level list ≡ true
+      → length list ≡ 2 * 154 → (v ≡ 9) × (level ≡ 0)
+  -- no request with more segments, or with more than 652 characters, is drawn
+  pub most : (r : Request) (out : ℕ) → refusal r out ≡ 0 → (length (r .payload) ≤ Tables.mostPayload) × (length (r .list) ≤ 2 * 154)
 
 -- ---- demand 1
 

@@ -1,12 +1,13 @@
--- A file has one text at the most, since a matrix has one answer at the most; and where every matrix has an answer, every file has a text.
+-- A file has one text, since a matrix has one answer.
 -- Assumes nothing.
 use mathlib.Core.Path.{_≡_, refl, sym, ap, _∙_}
 use mathlib.Core.List.{List, _++_}
 use Prim.Native.Nat.{ℕ}
 use lib.ListN.{length, drop}
 use Rattle.tables.specs.Tables.{mostPayload, mostList}
-use Rattle.reader.specs.Reader.{Answer, Refused, Reads}
+use Rattle.reader.specs.Reader.{Answer, Refused}
 use Rattle.reader.proofs.Only.{reads-only}
+use Rattle.reader.proofs.Some.{reads-some}
 use Rattle.symbolfile.specs.SymbolFile.{File, Opened, Symbol, NoSymbol, opened, FileAnswer, printed, Prints, FilePrinted}
 
 answer-only : (o : Opened) (x y : Answer) → FileAnswer o x → FileAnswer o y → x ≡ y
@@ -24,9 +25,9 @@ file-printed-only file before n n′ a a′ p q =
       p .holds .holds ∙ ap (λ (t : List ℕ). t ++ drop (length t) before) e ∙ sym (q .holds .holds),
     )
 
-pub prints-some : ((modules : List ℕ) → (a : Answer) × Reads modules mostPayload mostList a) → (file : File) → (out : List ℕ) × Prints file out
-prints-some some file = by (opened file) (λ o. o)
+pub prints-some : (file : File) → (out : List ℕ) × Prints file out
+prints-some file = by (opened file) (λ o. o)
   where
     by : (o : Opened) → ((a : Answer) × FileAnswer o a → (a : Answer) × FileAnswer (opened file) a) → (out : List ℕ) × Prints file out
     by NoSymbol f = let w = f (Refused 17, refl) in (printed (w .0), record { answer = w .0; answers = w .1; prints = refl })
-    by (Symbol m) f = let w = f (some m) in (printed (w .0), record { answer = w .0; answers = w .1; prints = refl })
+    by (Symbol m) f = let w = f (reads-some m mostPayload mostList) in (printed (w .0), record { answer = w .0; answers = w .1; prints = refl })
