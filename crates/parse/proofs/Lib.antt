@@ -10,5 +10,6 @@ pub mod Heads
 pub mod Lawful
 pub mod Limits
 pub mod Load
+pub mod Numbers
 pub mod Steps
 pub mod Written
