@@ -12,7 +12,7 @@ use native.Mathlib.Nat.{le-of-suc-le-suc, not-suc-le-zero, eq-or-lt-of-le, lt-ir
 use native.Mathlib.Omega.{arith}
 use lib.ListN.{length, getD, set, length-set}
 use lib.Seq.{getD-set-same, getD-set-other}
-use Rattle.basics.specs.Walk.{walked, kept, either}
+use Rattle.basics.specs.Walk.{walked, either}
 
 module _ (place : ℕ → ℕ) (keep : ℕ → Bool) (value : ℕ → ℕ) (out : List ℕ) where
   length-either : (t : Bool) (l : List ℕ) (p v : ℕ) → length (either t (set l p v) l) ≡ length l

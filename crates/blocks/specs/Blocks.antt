@@ -78,5 +78,5 @@ unfoldable pub blockOf : (v level : ℕ) (blocks : List ℕ) (b : ℕ) → List 
 blockOf v level blocks b = take (blockLength v level b) (drop (blockOffset v level b) blocks)
 
 -- the data codewords of all blocks, in block order
-unfoldable pub dataOf : (v level : ℕ) → (block : ℕ → List ℕ) → List ℕ
-dataOf v level block = joined (map (λ b. take (blockData v level b) (block b)) (upTo (blockCount v level)))
+unfoldable pub dataOf : (v level : ℕ) → (whole : ℕ → List ℕ) → List ℕ
+dataOf v level whole = joined (map (λ b. take (blockData v level b) (whole b)) (upTo (blockCount v level)))

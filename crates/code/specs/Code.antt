@@ -31,11 +31,11 @@ unfoldable pub generator : ℕ → List ℕ
 generator zero = 1 ∷ []
 generator (suc n) = plus (generator n ++ (0 ∷ [])) (0 ∷ map (mulN (powN n)) (generator n))
 
--- long division by x^n + the lower coefficients, k steps: what is then left of the list is the remainder
-unfoldable pub divided : (lower : List ℕ) (k : ℕ) → List ℕ → List ℕ
-divided lower zero cs = cs
-divided lower (suc k) [] = []
-divided lower (suc k) (c ∷ cs) = divided lower k (plus cs (map (mulN c) lower))
+-- long division by x^n + the lower coefficients gs, k steps: what is then left of the list is the remainder
+unfoldable pub divided : (gs : List ℕ) (k : ℕ) → List ℕ → List ℕ
+divided gs zero cs = cs
+divided gs (suc k) [] = []
+divided gs (suc k) (c ∷ cs) = divided gs k (plus cs (map (mulN c) gs))
 
 unfoldable pub lower : List ℕ → List ℕ
 lower [] = []

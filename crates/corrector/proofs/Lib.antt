@@ -9,3 +9,4 @@ pub mod Picked
 pub mod Finding
 pub mod Counting
 pub mod Testing
+pub mod Only

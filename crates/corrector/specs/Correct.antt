@@ -4,7 +4,6 @@ use mathlib.Core.Path.{_≡_}
 use mathlib.Core.List.{List}
 use Prim.Native.Nat.{ℕ, _≤_, _<_}
 use lib.ListN.{length, getD}
-use Rattle.corrector.specs.declared.Counts.{Counts}
 use Rattle.corrector.specs.declared.Correction.{Correction}
 use Rattle.corrector.specs.declared.Correction.the-variants.{Stood, NoneStands}
 use Rattle.code.specs.Code.{Stands, unreadable, syndromesOf}
@@ -38,3 +37,8 @@ Tested n room word flags c NoneStands = (t e : ℕ) → Stands n room word flags
 abbrev pub Corrected : (n room : ℕ) (word flags exit : List ℕ) → Correction → Type 0
 Corrected n room word flags exit (Stood k) = Stands n room word flags exit (k .differing) (k .unreadable)
 Corrected n room word flags exit NoneStands = (exit ≡ word) × ((c : List ℕ) (t e : ℕ) → Stands n room word flags c t e → ⊥)
+
+-- no two different answers, nor two words, satisfy the promise of `correct`
+abbrev pub CorrectedOnly : Type 0
+CorrectedOnly = (n room : ℕ) (word flags exit exit₁ : List ℕ) (r r₁ : Correction) → room ≤ n → length word ≤ 255
+    → Corrected n room word flags exit r → Corrected n room word flags exit₁ r₁ → (r ≡ r₁) × (exit ≡ exit₁)

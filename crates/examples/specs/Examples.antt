@@ -13,13 +13,14 @@ use Rattle.stream.specs.Stream.{dataCodewords}
 use Rattle.penalty.specs.Penalty.{runs, squares, share}
 use Rattle.writer.specs.Writer.{taken, refusal, request}
 
--- an example: what the definitions give, and what the paper names
+-- an example: its letter, what the definitions give, and what the paper names
 pub record Example : Type 0 where
+  pub letter : ℕ
   pub found : List ℕ
   pub named : List ℕ
 
-abbrev pub gives : (found named : List ℕ) → Example
-gives f n = record { found = f; named = n }
+abbrev pub gives : (letter : ℕ) (found named : List ℕ) → Example
+gives l f n = record { letter = l; found = f; named = n }
 
 -- the refusal of so many digits at 10-L, or 0
 unfoldable pub refusedDigits : ℕ → ℕ
@@ -41,32 +42,32 @@ unfoldable pub examples : List Example
 unfolding refusedDigits lineOf padPairs a-data
 examples =
     -- a. 1-M, numeric 01234567: data 10 20 0C 56 61 80 EC 11 .., checks A5 24 D4 C1 ED 36 C7 87 2C 55
-    gives (dataCodewords 1 1 (1 ∷ 8 ∷ []) (48 ∷ 49 ∷ 50 ∷ 51 ∷ 52 ∷ 53 ∷ 54 ∷ 55 ∷ [])) a-data
-    ∷ gives (checks (checkCount 1 1) a-data) (0xA5 ∷ 0x24 ∷ 0xD4 ∷ 0xC1 ∷ 0xED ∷ 0x36 ∷ 0xC7 ∷ 0x87 ∷ 0x2C ∷ 0x55 ∷ [])
+    gives 97 (dataCodewords 1 1 (1 ∷ 8 ∷ []) (48 ∷ 49 ∷ 50 ∷ 51 ∷ 52 ∷ 53 ∷ 54 ∷ 55 ∷ []) ++ checks (checkCount 1 1) a-data)
+    (a-data ++ (0xA5 ∷ 0x24 ∷ 0xD4 ∷ 0xC1 ∷ 0xED ∷ 0x36 ∷ 0xC7 ∷ 0x87 ∷ 0x2C ∷ 0x55 ∷ []))
     -- b. 1-H, alphanumeric AC-42: data 20 29 CE E7 21 00 EC 11 EC
-    ∷ gives (dataCodewords 1 3 (2 ∷ 5 ∷ []) (65 ∷ 67 ∷ 45 ∷ 52 ∷ 50 ∷ [])) (0x20 ∷ 0x29 ∷ 0xCE ∷ 0xE7 ∷ 0x21 ∷ 0x00 ∷ 0xEC ∷ 0x11 ∷ 0xEC ∷ [])
+    ∷ gives 98 (dataCodewords 1 3 (2 ∷ 5 ∷ []) (65 ∷ 67 ∷ 45 ∷ 52 ∷ 50 ∷ [])) (0x20 ∷ 0x29 ∷ 0xCE ∷ 0xE7 ∷ 0x21 ∷ 0x00 ∷ 0xEC ∷ 0x11 ∷ 0xEC ∷ [])
     -- c. 1-L, empty list: 00, then EC 11 nine times
-    ∷ gives (dataCodewords 1 0 [] []) (0x00 ∷ padPairs 9)
+    ∷ gives 99 (dataCodewords 1 0 [] []) (0x00 ∷ padPairs 9)
     -- d. M, mask 5: format hex 40CE
-    ∷ gives (formatWord (formatBits 1 5) ∷ []) (0x40CE ∷ [])
+    ∷ gives 100 (formatWord (formatBits 1 5) ∷ []) (0x40CE ∷ [])
     -- e. Version words 7 to 10: hex 07C94, 085BC, 09A99, 0A4D3
-    ∷ gives (map versionWord (from 7 4)) (0x07C94 ∷ 0x085BC ∷ 0x09A99 ∷ 0x0A4D3 ∷ [])
+    ∷ gives 101 (map versionWord (from 7 4)) (0x07C94 ∷ 0x085BC ∷ 0x09A99 ∷ 0x0A4D3 ∷ [])
     -- f. 5-Q blocks: 15, 15, 16, 16 data
-    ∷ gives (map (blockData 5 2) (upTo (blockCount 5 2))) (15 ∷ 15 ∷ 16 ∷ 16 ∷ [])
+    ∷ gives 102 (map (blockData 5 2) (upTo (blockCount 5 2))) (15 ∷ 15 ∷ 16 ∷ 16 ∷ [])
     -- g. n = 7: generator exponents 0, 87, 229, 146, 149, 238, 102, 21
-    ∷ gives (generator 7) (map powN (0 ∷ 87 ∷ 229 ∷ 146 ∷ 149 ∷ 238 ∷ 102 ∷ 21 ∷ []))
+    ∷ gives 103 (generator 7) (map powN (0 ∷ 87 ∷ 229 ∷ 146 ∷ 149 ∷ 238 ∷ 102 ∷ 21 ∷ []))
     -- h. Level L: 17 bytes take version 1, 18 take version 2
-    ∷ gives (taken 0 0 (4 ∷ 17 ∷ []) ∷ taken 0 0 (4 ∷ 18 ∷ []) ∷ []) (1 ∷ 2 ∷ [])
+    ∷ gives 104 (taken 0 0 (4 ∷ 17 ∷ []) ∷ taken 0 0 (4 ∷ 18 ∷ []) ∷ []) (1 ∷ 2 ∷ [])
     -- i. 10-L: 652 digits fit, 653 get refusal 5
-    ∷ gives (refusedDigits 652 ∷ refusedDigits 653 ∷ []) (0 ∷ 5 ∷ [])
+    ∷ gives 105 (refusedDigits 652 ∷ refusedDigits 653 ∷ []) (0 ∷ 5 ∷ [])
     -- j. Runs of 4, 5, 6 score 0, 3, 4; a 3 by 3 dark square has four 2 by 2 squares, 12
-    ∷ gives (runs (lineOf 4) ∷ runs (lineOf 5) ∷ runs (lineOf 6) ∷ squares 3 (replicate 3 (replicate 3 1)) ∷ []) (0 ∷ 3 ∷ 4 ∷ 12 ∷ [])
+    ∷ gives 106 (runs (lineOf 4) ∷ runs (lineOf 5) ∷ runs (lineOf 6) ∷ squares 3 (replicate 3 (replicate 3 1)) ∷ []) (0 ∷ 3 ∷ 4 ∷ 12 ∷ [])
     -- k. Side 25: 374 dark add 10, 375 add 20
-    ∷ gives (share 25 374 ∷ share 25 375 ∷ []) (10 ∷ 20 ∷ [])
+    ∷ gives 107 (share 25 374 ∷ share 25 375 ∷ []) (10 ∷ 20 ∷ [])
     -- l. 2 · 128 = 29 in the field
-    ∷ gives (mulN 2 128 ∷ []) (29 ∷ [])
+    ∷ gives 108 (mulN 2 128 ∷ []) (29 ∷ [])
     ∷ []
 
--- the one statement: what the definitions give is what the paper names, at every example
+-- the one statement: the examples are a to l, and at each what the definitions give is what the paper names
 abbrev pub ExamplesHold : Type 0
-ExamplesHold = map (λ (e : Example). e .found) examples ≡ map (λ (e : Example). e .named) examples
+ExamplesHold = (map (λ (e : Example). e .letter) examples ≡ from 97 12) × (map (λ (e : Example). e .found) examples ≡ map (λ (e : Example). e .named) examples)

@@ -3,7 +3,8 @@ ghost use Prim.Native.Nat.{_≤_};
 ghost use lib.ListN.{length};
 ghost use Rattle.io.specs.Counts.{Counts};
 ghost use Rattle.text.specs.Text.{mostText};
-ghost use Rattle.kqs.specs.Loaded.{Within, Said};
+ghost use Rattle.symbolfile.specs.SymbolFile.{FilePrinted};
+ghost use Rattle.kqs.specs.Loaded.{Within, fileOf};
 use libc::STDOUT_FILENO;
 
 // So many bytes of a file, or a read failed.
@@ -31,18 +32,25 @@ fn load(fd: i32, buf: &mut [u8]) -> Loaded
     Loaded::Bytes(n)
 }
 
-// The file's text, at the front of the buffer; its length comes back.
-fn print_file(file: &mut [u8], out: &mut [u8]) -> usize
-    requires { ⌜ mostText ≤ length (now out) ⌝ }
-    ensures { λ r. ⌜ Said (now (file .exit)) (now (out .entry)) r (now (out .exit)) ⌝ }
-    ensures { λ r. ⌜ Counts r (now (out .exit)) ⌝ }
+// The file `symbol.kqs` of the folder that the program is started in.
+fn load_file(buf: &mut [u8]) -> Loaded
+    ensures { λ r. ⌜ Within r (now (buf .exit)) ⌝ }
 {
     let fd = os::open_read(b"symbol.kqs");
     if fd < 0 {
-        return symbolfile::answer_closed(out);
+        return Loaded::Unreadable;
     }
-    let loaded = load(fd, file);
+    let loaded = load(fd, buf);
     libc::close(fd);
+    loaded
+}
+
+// The text of what was loaded, at the front of the buffer; its length comes back.
+fn print_loaded(loaded: Loaded, file: &[u8], out: &mut [u8]) -> usize
+    requires { ⌜ (mostText ≤ length (now out)) × Within loaded (now file) ⌝ }
+    ensures { λ r. ⌜ FilePrinted (fileOf loaded (now (file .entry))) (now (out .entry)) r (now (out .exit)) ⌝ }
+    ensures { λ r. ⌜ Counts r (now (out .exit)) ⌝ }
+{
     match loaded {
         Loaded::Unreadable => symbolfile::answer_closed(out),
         Loaded::Bytes(n) => symbolfile::answer(&file[..n], out),
@@ -53,6 +61,7 @@ fn print_file(file: &mut [u8], out: &mut [u8]) -> usize
 fn main() {
     let mut file = io::large_buffer();
     let mut out = io::large_buffer();
-    let n = print_file(&mut file, &mut out);
+    let loaded = load_file(&mut file);
+    let n = print_loaded(loaded, &file, &mut out);
     io::write_all(STDOUT_FILENO, &out[..n]);
 }

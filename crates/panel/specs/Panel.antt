@@ -36,3 +36,12 @@ pub record ReadAnswers (m payload list : List ℕ) (a : KqsReading) (payload′ 
   pub says : a ≡ readingOf answer
   pub payload-memory : payload′ ≡ payloadAfter answer payload
   pub list-memory : list′ ≡ listAfter answer list
+
+-- no two different answers, nor two contents of memory, satisfy the promise of `kqs_write`, or of `kqs_read`
+abbrev pub WriteAnswersOnly : Type 0
+WriteAnswersOnly = (r : Request) (out : List ℕ) (a a₁ : KqsDrawn) (after after₁ : List ℕ)
+    → WriteAnswers r out a after → WriteAnswers r out a₁ after₁ → (a ≡ a₁) × (after ≡ after₁)
+
+abbrev pub ReadAnswersOnly : Type 0
+ReadAnswersOnly = (m payload list : List ℕ) (a a₁ : KqsReading) (payload′ payload₁ list′ list₁ : List ℕ)
+    → ReadAnswers m payload list a payload′ list′ → ReadAnswers m payload list a₁ payload₁ list₁ → (a ≡ a₁) × (payload′ ≡ payload₁) × (list′ ≡ list₁)

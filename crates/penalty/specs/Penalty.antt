@@ -13,7 +13,7 @@ unfoldable pub rows : (s : ℕ) → List ℕ → List (List ℕ)
 rows s m = map (λ i. take s (drop (i * s) m)) (upTo s)
 
 unfoldable pub columns : (s : ℕ) → List (List ℕ) → List (List ℕ)
-columns s lines = map (λ j. map (λ line. getD line j 0) lines) (upTo s)
+columns s rs = map (λ j. map (λ row. getD row j 0) rs) (upTo s)
 
 -- "each longest run of r ≥ 5 equal modules: r − 2"
 unfoldable pub run : (r : ℕ) → ℕ

@@ -1,7 +1,7 @@
 pub mod Damage
 pub mod Drawn
+pub mod Draws
 pub mod Lawful
 pub mod Longest
-pub mod Numbers
 pub mod ReadBack
 pub mod Same

@@ -114,10 +114,6 @@ pub record LongestList : Type 0 where
 
 -- ---- demand 1
 
--- "each given exactly when document 01 says so": no two answers for one matrix
-abbrev pub ReadsOnly : Type 0
-ReadsOnly = (m : List ℕ) (payloadRoom listRoom : ℕ) (a b : Answer) → Reads m payloadRoom listRoom a → Reads m payloadRoom listRoom b → a ≡ b
-
 -- a request is drawn exactly where no check refuses it, and refused with the first that does
 pub record Draws (r : Request) (out : ℕ) : Type 0 where
   pub drawn : refusal r out ≡ 0 → (v : ℕ) × (mask : ℕ) × (modules : List ℕ) × (draw r out ≡ Drawn v mask modules)

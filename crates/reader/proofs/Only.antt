@@ -21,7 +21,9 @@ use Rattle.words.proofs.Bits.{format-bits-lt, bits-level, bits-mask}
 use Rattle.parse.specs.Parse.{message}
 use Rattle.blocks.specs.Blocks.{gathered, dataOf}
 use Rattle.scan.specs.Received.{received}
-use Rattle.reader.specs.Reader.{Answer, answer, First, Reads, Versioned, Formatted, FormatStands, Corrected, Above, OtherVersion, NoFormat, TwoFormats, NoCodeword, blockWord, blockFlags}
+use Rattle.reader.specs.Reader.{Answer, answer, First, Reads, Versioned, Formatted, FormatStands, Corrected, Above, OtherVersion, NoFormat, TwoFormats, NoCodeword, blockWord, blockFlags, payloadAfter, listAfter}
+use Rattle.reader.specs.Answers.{answered}
+use Rattle.reader.specs.Theorems.{ReadsOnly, AnswersOnly}
 
 first-only : {F L M : Type 0} {n : ℕ} {a b : Answer} → First F n a L → First F n b M → (L → M → a ≡ b) → a ≡ b
 first-only (inl x) (inl y) k = x .1 ∙ sym (y .1)
@@ -36,9 +38,6 @@ block-short : (v level b : ℕ) (bs : List ℕ) → v < 11 → 1 ≤ v → level
 unfolding blockWord gathered
 block-short v level b bs hv lv hl =
     rw (length-map, length-upTo) (omega (arith, block-length-most v level b (record { least = lv; most = omega arith; levels = omega arith })))
-
-abbrev pub ReadsOnly : Type 0
-ReadsOnly = (m : List ℕ) (payloadRoom listRoom : ℕ) (a b : Answer) → Reads m payloadRoom listRoom a → Reads m payloadRoom listRoom b → a ≡ b
 
 corrected-only : (v level mask : ℕ) (bs : List ℕ) (a b : Answer) → v < 11 → 1 ≤ v → level < 4 → Corrected v level mask bs a → Corrected v level mask bs b → a ≡ b
 unfolding dataOf
@@ -105,3 +104,12 @@ versioned-only m a b x y =
 pub reads-only : ReadsOnly
 unfolding Reads
 reads-only m payloadRoom listRoom a b x y = first-only x y (λ p q. first-only p q (versioned-only m a b))
+
+-- .. and so has what the call answers and leaves in memory
+pub answers-only : AnswersOnly
+answers-only m payload list r r₁ payload′ payload₁ list′ list₁ x y =
+    let e = reads-only m (length payload) (length list) (x .answer) (y .answer) (x .reads) (y .reads) in (
+      x .says ∙ ap answered e ∙ sym (y .says),
+      x .payload-memory ∙ ap (λ (a : Answer). payloadAfter a payload) e ∙ sym (y .payload-memory),
+      x .list-memory ∙ ap (λ (a : Answer). listAfter a list) e ∙ sym (y .list-memory),
+    )

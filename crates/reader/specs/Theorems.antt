@@ -10,11 +10,22 @@ use Rattle.tables.specs.Version.{Square}
 use Rattle.parse.specs.Parse.{Fault, message}
 use Rattle.blocks.specs.Blocks.{dataOf}
 use Rattle.scan.specs.Received.{received}
+use Rattle.reader.specs.declared.Answered.{Answered}
+use Rattle.reader.specs.Answers.{Answers}
 use Rattle.reader.specs.Reader.{Answer, Refused, Reads, Small, NoVersion, Above, OtherVersion, NoFormat, TwoFormats, NoCodeword, FormatStands, BlockStands}
 
 -- every matrix has an answer
 abbrev pub ReadsSome : Type 0
 ReadsSome = (m : List ℕ) (payloadRoom listRoom : ℕ) → (a : Answer) × Reads m payloadRoom listRoom a
+
+-- and no matrix has two
+abbrev pub ReadsOnly : Type 0
+ReadsOnly = (m : List ℕ) (payloadRoom listRoom : ℕ) (a b : Answer) → Reads m payloadRoom listRoom a → Reads m payloadRoom listRoom b → a ≡ b
+
+-- no two different answers, nor two contents of memory, satisfy the promise of `read`
+abbrev pub AnswersOnly : Type 0
+AnswersOnly = (m payload list : List ℕ) (r r₁ : Answered) (payload′ payload₁ list′ list₁ : List ℕ)
+    → Answers m payload list r payload′ list′ → Answers m payload list r₁ payload₁ list₁ → (r ≡ r₁) × (payload′ ≡ payload₁) × (list′ ≡ list₁)
 
 -- the reader's numbers are 7 to 16
 abbrev pub ReaderNumbers : Type 0

@@ -71,6 +71,10 @@ pub blocks-most : (v level : ℕ) → Lawful v level → blockCount v level ≤ 
 blocks-most v level l = leb→le _ _ (rule (λ v level. leb (blockCount v level) 8) blocks-most-tested v level l)
 
 -- the room of a block is at most its checks
+room-all : (v level : ℕ) → room v level ≡ checkCount v level
+unfolding room
+room-all v level = refl
+
 pub room-most : (v level : ℕ) → room v level ≤ checkCount v level
 unfolding room
 room-most v level = le-refl (checkCount v level)
@@ -203,7 +207,7 @@ tables-rules v level l =
       lengths = length-sum v level l;
       held = λ b. omega (arith, block-data-least v level b l);
       short = λ b. block-length-most v level b l;
-      bound = room-most v level;
+      bound = room-all v level;
       codewords = total-most v (l .least) (l .most);
       checks = checks-most v level l;
       blocks = blocks-most v level l;

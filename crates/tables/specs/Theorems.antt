@@ -20,7 +20,7 @@ pub record TableRules (v level : ℕ) : Type 0 where
   pub held : (b : ℕ) → 0 < blockData v level b
   pub short : (b : ℕ) → blockLength v level b < 256
   -- "the bound is 2t + e ≤ n at every version and level"
-  pub bound : room v level ≤ checkCount v level
+  pub bound : room v level ≡ checkCount v level
   -- the buffers have room for every version and level
   pub codewords : total v ≤ mostCodewords
   pub checks : checkCount v level ≤ mostChecks
