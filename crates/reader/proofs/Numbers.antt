@@ -10,7 +10,7 @@ use Rattle.parse.proofs.Numbers.{fault-numbers}
 use Rattle.blocks.specs.Blocks.{dataOf}
 use Rattle.scan.specs.Received.{received}
 use Rattle.reader.specs.Reader.{Answer, Refused, answer, First, Reads, Versioned, Formatted, Corrected, Small, NoVersion, Above, OtherVersion, NoFormat, TwoFormats, NoCodeword}
-use Rattle.reader.specs.Theorems.{ReaderNumbers, ReadsRefused, Sized, Plain, Named, Faulty}
+use Rattle.reader.specs.Theorems.{ReaderNumbers, ReadsRefused, PastSize, PastVersions, PastFormats, StreamFaulty}
 
 -- ---- a check's own number, and the later ones
 
@@ -36,11 +36,11 @@ given : (v level mask t e k : ℕ) (p : Parsed) → Refused k ≡ answer v level
 given v level mask t e k (Message q r) h = absurd (let z : _≡_ {A = ℕ} 0 1 = cc in omega arith)
 given v level mask t e k (Fault n) h = ap Fault (sym (same-number k n h))
 
-corrected-faulty : (v level mask k : ℕ) (bs : List ℕ) → Corrected v level mask bs (Refused k) → Faulty v level bs k
+corrected-faulty : (v level mask k : ℕ) (bs : List ℕ) → Corrected v level mask bs (Refused k) → StreamFaulty v level bs k
 corrected-faulty v level mask k bs c =
     record { blocks = c .blocks; ts = c .ts; es = c .es; stand = c .stand; fault = given v level mask _ _ k _ (c .gives) }
 
-faulty-number : (v level k : ℕ) (bs : List ℕ) → Faulty v level bs k → (13 ≤ k) × (k ≤ 15)
+faulty-number : (v level k : ℕ) (bs : List ℕ) → StreamFaulty v level bs k → (13 ≤ k) × (k ≤ 15)
 faulty-number v level k bs f = fault-numbers v k (dataOf v level (f .blocks)) (f .fault)
 
 module _ (m : List ℕ) (k : ℕ) where
@@ -72,19 +72,19 @@ reader-numbers m payloadRoom listRoom k (inr p) = let l = from-seven m k (p .1) 
 
 module _ (m : List ℕ) (payloadRoom listRoom : ℕ) where
   -- an answer that is given by the checks from 8 on
-  then-sized : (v : ℕ) (a : Answer) → Sized m payloadRoom listRoom v
+  then-sized : (v : ℕ) (a : Answer) → PastSize m payloadRoom listRoom v
       → First (Above m) 8 a (First (OtherVersion v m) 9 a (First (NoFormat v m) 10 a (First (TwoFormats v m) 11 a (Formatted v m a))))
       → Reads m payloadRoom listRoom a
   unfolding Reads
   then-sized v a s f = inr (s .large, inr (λ n. n v (s .square), record { version = v; sized = s .square; then = f }))
 
   -- .. from 10 on
-  then-plain : (v : ℕ) (a : Answer) → Plain m payloadRoom listRoom v → First (NoFormat v m) 10 a (First (TwoFormats v m) 11 a (Formatted v m a))
+  then-plain : (v : ℕ) (a : Answer) → PastVersions m payloadRoom listRoom v → First (NoFormat v m) 10 a (First (TwoFormats v m) 11 a (Formatted v m a))
       → Reads m payloadRoom listRoom a
   then-plain v a p f = then-sized v a (p .sized) (inr (p .low, inr (p .same, f)))
 
   -- .. from 12 on
-  then-named : (v level mask : ℕ) (a : Answer) → Named m payloadRoom listRoom v level mask
+  then-named : (v level mask : ℕ) (a : Answer) → PastFormats m payloadRoom listRoom v level mask
       → First (NoCodeword v level (received v mask m)) 12 a (Corrected v level mask (received v mask m) a) → Reads m payloadRoom listRoom a
   then-named v level mask a n f =
       then-plain v a (n .plain)
@@ -102,12 +102,12 @@ module _ (m : List ℕ) (payloadRoom listRoom : ℕ) where
     versioned : k ≢ 16 → k ≢ 7 → (Small payloadRoom listRoom → ⊥) × Versioned m (Refused k)
     versioned d e = let s = not-small d in (s .0, past k (s .1) e .1)
 
-    sized : (p : Versioned m (Refused k)) → (Small payloadRoom listRoom → ⊥) → Sized m payloadRoom listRoom (p .version)
+    sized : (p : Versioned m (Refused k)) → (Small payloadRoom listRoom → ⊥) → PastSize m payloadRoom listRoom (p .version)
     sized p s = record { large = s; square = p .sized }
 
     -- the checks up to 9 are passed
     plain : 9 < k → k < 16
-        → (v : ℕ) × Plain m payloadRoom listRoom v × First (NoFormat v m) 10 (Refused k) (First (TwoFormats v m) 11 (Refused k) (Formatted v m (Refused k)))
+        → (v : ℕ) × PastVersions m payloadRoom listRoom v × First (NoFormat v m) 10 (Refused k) (First (TwoFormats v m) 11 (Refused k) (Formatted v m (Refused k)))
     plain h l =
         let p = versioned (λ e. omega arith) (λ e. omega arith) in
         let a = past k (p .1 .then) (λ e. omega arith) in
@@ -116,7 +116,7 @@ module _ (m : List ℕ) (payloadRoom listRoom : ℕ) where
 
     -- and up to 11
     named : 11 < k → k < 16
-        → (v : ℕ) × (level : ℕ) × (mask : ℕ) × Named m payloadRoom listRoom v level mask
+        → (v : ℕ) × (level : ℕ) × (mask : ℕ) × PastFormats m payloadRoom listRoom v level mask
         × First (NoCodeword v level (received v mask m)) 12 (Refused k) (Corrected v level mask (received v mask m) (Refused k))
     named h l =
         let p = plain (omega arith) l in

@@ -34,25 +34,25 @@ ReaderNumbers = (m : List ℕ) (payloadRoom listRoom k : ℕ) → Reads m payloa
 -- ---- each number exactly where the paper says so
 
 -- 16 and 7 are passed: the buffers are large enough, and the length is that of a version
-pub record Sized (m : List ℕ) (payloadRoom listRoom v : ℕ) : Type 0 where
+pub record PastSize (m : List ℕ) (payloadRoom listRoom v : ℕ) : Type 0 where
   pub large : Small payloadRoom listRoom → ⊥
   pub square : Square (length m) v
 
 -- .. and 8 and 9
-pub record Plain (m : List ℕ) (payloadRoom listRoom v : ℕ) : Type 0 where
-  pub sized : Sized m payloadRoom listRoom v
+pub record PastVersions (m : List ℕ) (payloadRoom listRoom v : ℕ) : Type 0 where
+  pub sized : PastSize m payloadRoom listRoom v
   pub low : Above m → ⊥
   pub same : OtherVersion v m → ⊥
 
 -- .. and 10 and 11: a format copy stands for the level and the mask
-pub record Named (m : List ℕ) (payloadRoom listRoom v level mask : ℕ) : Type 0 where
-  pub plain : Plain m payloadRoom listRoom v
+pub record PastFormats (m : List ℕ) (payloadRoom listRoom v level mask : ℕ) : Type 0 where
+  pub plain : PastVersions m payloadRoom listRoom v
   pub copy : ℕ
   pub stands : FormatStands v m copy level mask
   pub one : TwoFormats v m → ⊥
 
 -- .. and 12: every block stands for a codeword, and the stream of their data has a fault
-pub record Faulty (v level : ℕ) (bs : List ℕ) (k : ℕ) : Type 0 where
+pub record StreamFaulty (v level : ℕ) (bs : List ℕ) (k : ℕ) : Type 0 where
   pub blocks : ℕ → List ℕ
   pub ts : ℕ → ℕ
   pub es : ℕ → ℕ
@@ -62,15 +62,15 @@ pub record Faulty (v level : ℕ) (bs : List ℕ) (k : ℕ) : Type 0 where
 pub record RefusedWith (m : List ℕ) (payloadRoom listRoom : ℕ) : Type 0 where
   pub sixteen : Reads m payloadRoom listRoom (Refused 16) ↔ Small payloadRoom listRoom
   pub seven : Reads m payloadRoom listRoom (Refused 7) ↔ ((Small payloadRoom listRoom → ⊥) × NoVersion m)
-  pub eight : Reads m payloadRoom listRoom (Refused 8) ↔ ((v : ℕ) × Sized m payloadRoom listRoom v × Above m)
-  pub nine : Reads m payloadRoom listRoom (Refused 9) ↔ ((v : ℕ) × Sized m payloadRoom listRoom v × (Above m → ⊥) × OtherVersion v m)
-  pub ten : Reads m payloadRoom listRoom (Refused 10) ↔ ((v : ℕ) × Plain m payloadRoom listRoom v × NoFormat v m)
-  pub eleven : Reads m payloadRoom listRoom (Refused 11) ↔ ((v : ℕ) × Plain m payloadRoom listRoom v × TwoFormats v m)
+  pub eight : Reads m payloadRoom listRoom (Refused 8) ↔ ((v : ℕ) × PastSize m payloadRoom listRoom v × Above m)
+  pub nine : Reads m payloadRoom listRoom (Refused 9) ↔ ((v : ℕ) × PastSize m payloadRoom listRoom v × (Above m → ⊥) × OtherVersion v m)
+  pub ten : Reads m payloadRoom listRoom (Refused 10) ↔ ((v : ℕ) × PastVersions m payloadRoom listRoom v × NoFormat v m)
+  pub eleven : Reads m payloadRoom listRoom (Refused 11) ↔ ((v : ℕ) × PastVersions m payloadRoom listRoom v × TwoFormats v m)
   pub twelve : Reads m payloadRoom listRoom (Refused 12)
-      ↔ ((v : ℕ) × (level : ℕ) × (mask : ℕ) × Named m payloadRoom listRoom v level mask × NoCodeword v level (received v mask m))
+      ↔ ((v : ℕ) × (level : ℕ) × (mask : ℕ) × PastFormats m payloadRoom listRoom v level mask × NoCodeword v level (received v mask m))
   -- 13 to 15
   pub stream : (k : ℕ) → 13 ≤ k → k ≤ 15 → Reads m payloadRoom listRoom (Refused k)
-      ↔ ((v : ℕ) × (level : ℕ) × (mask : ℕ) × Named m payloadRoom listRoom v level mask × Faulty v level (received v mask m) k)
+      ↔ ((v : ℕ) × (level : ℕ) × (mask : ℕ) × PastFormats m payloadRoom listRoom v level mask × StreamFaulty v level (received v mask m) k)
 
 abbrev pub ReadsRefused : Type 0
 ReadsRefused = (m : List ℕ) (payloadRoom listRoom : ℕ) → RefusedWith m payloadRoom listRoom
