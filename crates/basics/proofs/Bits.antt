@@ -3,14 +3,14 @@
 use mathlib.Core.Path.{_≡_, refl, sym, ap, ap₂, _∙_}
 use mathlib.Core.List.{List, [], _∷_, _++_, append-assoc}
 use Prim.Native.Nat.{ℕ, zero, suc, _+_, _-_, _*_, _/_, _%_, _^_, _<_, _≤_}
-use native.Mathlib.Nat.{mod-lt, mod-one, mod-eq-of-lt, pow-suc, add-mul, add-assoc, zero-add, mul-assoc, mul-comm, not-suc-le-zero, le-of-suc-le-suc}
+use native.Mathlib.Nat.{mod-one, mod-eq-of-lt, pow-suc, add-mul, add-assoc, zero-add, mul-assoc, mul-comm, not-suc-le-zero, le-of-suc-le-suc}
 use native.Mathlib.Numerals.{one-add}
 use native.Mathlib.Omega.{arith}
 use lib.Dec.{lit<}
 use lib.Pow.{high, low, field, mod-mod-pow, mod-pow-add}
 use lib.ListN.{length, getD, take, drop, length-append, List·getD-append}
 use lib.Seq.{take-at, drop-at, drop-append-add, getD-append-add}
-use Rattle.basics.specs.Bits.{bitOf, bits, byteBits, numberAfter, number, bytes, lowFirst}
+use Rattle.basics.specs.Bits.{bitOf, bits, byteBits, numberAfter, number, bytes}
 use Rattle.basics.specs.Lists.{AtMost}
 use Rattle.basics.proofs.Lists.{at-most-append, at-most-cons}
 

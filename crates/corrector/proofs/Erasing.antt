@@ -3,13 +3,13 @@
 use mathlib.Core.Path.{_≡_, refl, sym, ap, _∙_, fun-ext}
 use mathlib.Core.Bool.{Bool, true, false, not, cond}
 use mathlib.Core.List.{List, _∷_}
-use Prim.Native.Nat.{ℕ, zero, suc, _+_, _-_, _≤_, _<_}
+use Prim.Native.Nat.{ℕ, zero, suc, _-_, _≤_, _<_}
 use native.Mathlib.Numerals.{sub-one}
 use native.Mathlib.Omega.{arith}
 use lib.Dec.{eqb}
 use lib.ListN.{length, getD}
 use Rattle.field.specs.Field.{powN, dblN}
-use Rattle.field.proofs.Byte.{Byte, elt}
+use Rattle.field.proofs.Byte.{elt}
 use Rattle.theory.proofs.Places.{erase, erase-all}
 use Rattle.theory.proofs.Gf.{gf256, locators}
 use Rattle.corrector.specs.Lanes.{filled, timesPlus, lowered, poly}

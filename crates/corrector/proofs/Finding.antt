@@ -1,23 +1,21 @@
 -- The corrector finds the codeword that a block stands for: the run's polynomial has every wrong place for a root, so the suspected places hold all the damage and are few,
 -- and the values that the sums give at them are the damage. The theory's `covers`, `fits` and `magnitude`, told of the rows that the code computes.
 -- Assumes nothing.
-use mathlib.Core.Path.{_≡_, refl, sym, ap, ap₂, _∙_, fun-ext, subst}
+use mathlib.Core.Path.{_≡_, refl, sym, ap, ap₂, _∙_, subst}
 use mathlib.Core.Logic.{_⊎_, inl, inr, ⊎-elim, by-cases}
 use mathlib.Core.Bool.{Bool, true, false, not, _||_, _&&_}
-use mathlib.Core.List.{List, [], _∷_, _++_, append-nil, List·Memᴰ, Memᴰ·append-left, Memᴰ·append-right}
-use Prim.Native.Nat.{ℕ, zero, suc, _+_, _-_, _*_, _≤_, _<_}
+use mathlib.Core.List.{List, _++_, append-nil, List·Memᴰ, Memᴰ·append-left, Memᴰ·append-right}
+use Prim.Native.Nat.{ℕ, _+_, _-_, _≤_, _<_}
 use native.Mathlib.Decide.{decLt}
 use native.Mathlib.Omega.{arith}
-use lib.Bits.{bitXor}
-use Rattle.basics.specs.Sums.{one, tally}
-use lib.Dec.{T, eqb, eqb→eq}
+use Rattle.basics.specs.Sums.{one}
+use lib.Dec.{T, eqb}
 use lib.ListN.{length, getD, take, length-append}
 use lib.Seq.{length-take-le}
 use borrow.Author.Tests.{eqb-true, eq-eqb}
-use Rattle.field.specs.Field.{powN}
-use Rattle.field.proofs.Byte.{Byte, val, elt, add, mul, inv, elt-add, elt-val, val-elt}
+use Rattle.field.proofs.Byte.{Byte, val, elt, inv, elt-add, elt-val, val-elt}
 use Rattle.theory.proofs.Field.{Field}
-use Rattle.theory.proofs.Run.{eval, Roots, Monic, Run}
+use Rattle.theory.proofs.Run.{eval, Roots, Monic}
 use Rattle.theory.proofs.Places.{Apart, Agree, psum, erase-all}
 use Rattle.theory.proofs.Algebra.{⊕-zero, ⊕-self, ⊕-cancel}
 use Rattle.theory.proofs.Distance.{psum-⊕}
@@ -25,13 +23,13 @@ use Rattle.theory.proofs.Erase.{erase-all-window}
 use Rattle.theory.proofs.Complete.{covers, fits}
 use Rattle.theory.proofs.Gf.{gf256, locators, locators-apart}
 use Rattle.theory.proofs.Values.{product, product-monic, product-root, evaluator, slope, magnitude}
-use Rattle.code.specs.Code.{Codeword, Stands, unreadable, differing, syndromesOf}
+use Rattle.code.specs.Code.{Stands, unreadable}
 use Rattle.code.proofs.Bridge.{word, Bytes, codeword-sums, syndromes-sum}
 use Rattle.code.proofs.Places.{places-has, wrong, length-wrong}
 use Rattle.code.proofs.Distance.{elt-same}
 use Rattle.corrector.specs.Lanes.{poly, Running}
 use Rattle.corrector.specs.Places.{picked, marked, suspect, Erased, Found, Mended, Magnitudes}
-use Rattle.corrector.specs.Correct.{Asked, Proposed}
+use Rattle.corrector.specs.Correct.{Asked}
 use Rattle.corrector.proofs.Picked.{picked-has, picked-is, picked-length, picked-roots, picked-either, taken-at, taken-has}
 open Field gf256 using (_⊕_, _⊗_, 𝟘)
 

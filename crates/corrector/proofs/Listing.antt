@@ -2,10 +2,10 @@
 -- Assumes nothing.
 use mathlib.Core.Path.{_≡_, refl, sym, ap, ap₂, subst, _∙_}
 use mathlib.Core.Logic.{_≢_, by-cases}
-use mathlib.Core.Bool.{Bool, true, false, not, cond, _||_}
+use mathlib.Core.Bool.{Bool, true, false, not, _||_}
 use mathlib.Core.List.{List, [], _∷_, _++_, append-assoc}
-use Prim.Native.Nat.{ℕ, zero, suc, _+_, _-_, _≤_, _<_}
-use native.Mathlib.Numerals.{add-one, sub-one}
+use Prim.Native.Nat.{ℕ, suc, _+_, _-_, _≤_, _<_}
+use native.Mathlib.Numerals.{add-one}
 use native.Mathlib.Decide.{decLt, ℕ-discrete}
 use native.Mathlib.Omega.{arith}
 use lib.Bits.{bitXor, xor-zero-r}
@@ -14,7 +14,7 @@ use lib.ListN.{length, getD, take, set, length-append, length-set, List·getD-eq
 use lib.Seq.{take-suc-set, length-take-le, getD-set-same, getD-set-other}
 use Rattle.basics.proofs.Test.{all, at, same, same₁}
 use Rattle.basics.proofs.Build.{build-get}
-use Rattle.field.specs.Field.{powN, dblN, mulN}
+use Rattle.field.specs.Field.{powN, mulN}
 use Rattle.field.proofs.Laws.{pow-add}
 use Rattle.field.proofs.Byte.{val, elt, val-elt}
 use Rattle.theory.proofs.Run.{eval}

@@ -3,8 +3,6 @@
 use mathlib.Core.Path.{refl, sym, ap₂, _∙_}
 use Prim.Native.Nat.{ℕ}
 use Rattle.code.proofs.Distance.{stands-only}
-use Rattle.corrector.specs.declared.Counts.{Counts}
-use Rattle.corrector.specs.declared.Correction.{Correction}
 use Rattle.corrector.specs.declared.Correction.the-variants.{Stood, NoneStands}
 use Rattle.corrector.specs.Correct.{CorrectedOnly}
 

@@ -1,7 +1,7 @@
 -- What a row stands for after each of the steps on lanes.
 -- Assumes nothing.
-use mathlib.Core.Path.{_≡_, refl, sym, ap, ap₂, _∙_, fun-ext}
-use mathlib.Core.Logic.{_≢_, by-cases}
+use mathlib.Core.Path.{_≡_, refl, sym, ap, ap₂, _∙_}
+use mathlib.Core.Logic.{by-cases}
 use mathlib.Core.List.{List, _∷_}
 use Prim.Native.Nat.{ℕ, zero, suc, _+_, _-_, _≤_, _<_}
 use native.Mathlib.Numerals.{add-one, one-add}
@@ -11,16 +11,14 @@ use lib.Bits.{bitXor, xor-lt}
 use lib.ListN.{length, getD, replicate, List·getD-eq-default}
 use Rattle.basics.specs.Build.{build}
 use Rattle.basics.proofs.Build.{build-get, build-length}
-use Rattle.field.specs.Field.{mulN}
 use Rattle.field.proofs.Laws.{mul-lt}
-use Rattle.field.proofs.Byte.{Byte, elt, add, mul, elt-add, elt-mul}
+use Rattle.field.proofs.Byte.{Byte, elt, add, elt-add, elt-mul}
 use Rattle.theory.proofs.Field.{Field}
 use Rattle.theory.proofs.Sum.{sum}
 use Rattle.theory.proofs.Run.{act, Below, shift, mix}
 use Rattle.theory.proofs.Places.{erase}
-use Rattle.theory.proofs.Algebra.{ring, zero-⊗, ⊕-zero, ⊕-comm, ⊗-comm, sum-cong}
+use Rattle.theory.proofs.Algebra.{zero-⊗, ⊕-zero, ⊕-comm, ⊗-comm, sum-cong}
 use Rattle.theory.proofs.Massey.{mix-below}
-use Rattle.theory.proofs.Values.{times}
 use Rattle.theory.proofs.Gf.{gf256}
 use Rattle.corrector.specs.Lanes.{filled, timesPlus, lowered, late, raised, poly}
 use Rattle.corrector.proofs.Late.{late-lt}

@@ -1,14 +1,14 @@
 -- From the numbers of the code to the field of the theory: what a step of the code does is a step of the run. Assumes nothing.
-use mathlib.Core.Path.{_≡_, refl, sym, ap, ap₂, _∙_, subst, subst₃, fun-ext}
+use mathlib.Core.Path.{_≡_, refl, sym, ap, _∙_, subst, subst₃, fun-ext}
 use mathlib.Core.Logic.{_≢_}
 use mathlib.Core.List.{List, _∷_}
 use Prim.Native.Nat.{ℕ, zero, suc, _+_, _-_, _≤_, _<_}
 use native.Mathlib.Numerals.{add-one}
 use native.Mathlib.Omega.{arith}
-use lib.ListN.{length, getD, replicate}
+use lib.ListN.{replicate}
 use Rattle.field.specs.Field.{mulN, invN}
 use native.Mathlib.Decide.{Fin·val-path}
-use Rattle.field.proofs.Byte.{Byte, val, elt, inv, elt-mul, val-elt}
+use Rattle.field.proofs.Byte.{val, elt, inv, elt-mul, val-elt}
 use Rattle.field.proofs.Laws.{inv-lt}
 use Rattle.theory.proofs.Field.{Field}
 use Rattle.theory.proofs.Run.{act, one, mix, Run}

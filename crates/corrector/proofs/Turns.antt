@@ -1,7 +1,7 @@
 -- A turn of each loop over polynomials: their product by a linear factor, the sums that they make, and their values from the highest coefficient down.
 -- Assumes nothing.
 use mathlib.Core.Path.{_≡_, refl, sym, ap, ap₂, _∙_, fun-ext}
-use mathlib.Core.Logic.{_≢_, by-cases}
+use mathlib.Core.Logic.{by-cases}
 use mathlib.Core.List.{List, _∷_}
 use Prim.Native.Nat.{ℕ, zero, suc, _+_, _-_, _≤_, _<_}
 use native.Mathlib.Numerals.{add-one, sub-one}
@@ -9,17 +9,16 @@ use native.Mathlib.Decide.{decLt}
 use native.Mathlib.Omega.{arith}
 use lib.Bits.{bitXor, xor-zero-r}
 use lib.ListN.{length, getD, replicate, List·getD-eq-default}
-use Rattle.basics.specs.Build.{build}
 use Rattle.basics.proofs.Build.{build-get}
 use Rattle.field.specs.Field.{mulN, evenPowers, invN}
 use Rattle.field.proofs.Laws.{mul-assoc, mul-one, one-mul, mul-lt, inv-lt}
-use Rattle.field.proofs.Byte.{Byte, elt, inv, elt-mul}
+use Rattle.field.proofs.Byte.{elt, inv, elt-mul}
 use Rattle.theory.proofs.Field.{Field}
 use Rattle.theory.proofs.Sum.{sum}
 use Rattle.theory.proofs.Run.{eval, one, shift, mix, Below}
 use Rattle.theory.proofs.Algebra.{⊕-comm, zero-⊗, sum-few}
 use Rattle.theory.proofs.Gf.{gf256}
-use Rattle.theory.proofs.Values.{times, product, product-monic, evaluator, evaluator-below, tail, tail-step, tail-end, tail-all, slope, slopes, slopes-step, slopes-end, slopes-all}
+use Rattle.theory.proofs.Values.{times, product, product-monic, evaluator, evaluator-below, tail, tail-step, tail-end, slope, slopes, slopes-step, slopes-end}
 use Rattle.corrector.specs.Lanes.{filled, timesPlus, lowered, raised, poly}
 use Rattle.corrector.proofs.Rows.{Row, row-below, turned, scaled, poly-times, poly-raised, poly-lowered, poly-zeros, poly-filled, built-past, raised-length, lowered-row, filled-length, filled-at, zeros-at}
 use Rattle.corrector.specs.Places.{Magnitudes}

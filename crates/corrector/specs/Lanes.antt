@@ -1,8 +1,7 @@
 -- Rows of 32 bytes: as lanes that are worked on at once, and as the polynomials and sequences of the theory.
 -- Assumes nothing.
-use mathlib.Core.Path.{_≡_}
 use mathlib.Core.List.{List}
-use Prim.Native.Nat.{ℕ, zero, suc, _+_, _<_}
+use Prim.Native.Nat.{ℕ, zero, suc, _+_}
 use lib.Bits.{bitXor}
 use lib.ListN.{getD, replicate}
 use Rattle.basics.specs.Build.{build}

@@ -16,7 +16,6 @@ use Rattle.basics.specs.Bits.{byteBits, bitOf}
 use Rattle.basics.specs.Lists.{upTo}
 use Rattle.basics.proofs.Bits.{getD-byteBits, length-byteBits, bit-le}
 use Rattle.basics.proofs.Lists.{length-map-upTo, getD-map-upTo}
-use Rattle.basics.proofs.Test.{all}
 use Rattle.tables.specs.Tables.{side}
 use Rattle.words.specs.Words.{versionWord}
 use Rattle.modules.specs.Modules.{Module, Finder, Timing, Alignment, Dark, Format, Version, Data, remains, isData, pairColumn, walk, step, met, fill}

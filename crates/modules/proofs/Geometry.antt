@@ -16,8 +16,8 @@ use Rattle.basics.specs.Lists.{upTo, placeIn, AtMost}
 use Rattle.basics.specs.Sums.{one}
 use Rattle.basics.proofs.Bits.{byteBits-le, bit-le}
 use Rattle.basics.proofs.Sums.{one-le}
-use Rattle.basics.proofs.Lists.{length-map-upTo, getD-map-upTo, length-map, getD-map}
-use Rattle.basics.proofs.Test.{all, at, grid, cube, both, either, either-cases}
+use Rattle.basics.proofs.Lists.{length-map-upTo, getD-map-upTo}
+use Rattle.basics.proofs.Test.{all, at, grid, cube, both, either-cases}
 use Rattle.tables.specs.Tables.{side, total, surplus}
 use Rattle.words.specs.Words.{formatWord, formatBits, versionWord}
 use Rattle.modules.specs.Modules.{Module, Format, Version, Finder, Timing, Alignment, Dark, Data, remains, colour, finder, finderColour, timing, alignment, copyAt, wordModule, moduleOf, order, walk, step, met, fill, maskNumbers, flips, isData, formatPlaces, versionPlaces, moduleAt, symbol}

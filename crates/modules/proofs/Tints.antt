@@ -8,7 +8,7 @@ use Prim.Native.Nat.{ℕ, zero, suc, _+_, _-_, _*_, _/_, _%_, _^_, _≤_, _<_}
 use native.Mathlib.Nat.{add-zero, add-suc, suc-mul, mul-comm, zero-div, zero-mod, pow-suc, div-div-eq-div-mul, mul-add-div-right, mul-add-mod-self-right, div-eq-of-lt, mod-eq-of-lt}
 use native.Mathlib.Numerals.{add-one}
 use native.Mathlib.Omega.{arith}
-use lib.Dec.{T, leb, eqb, eqb→eq}
+use lib.Dec.{T, eqb, eqb→eq}
 use lib.ListN.{length, getD, take, drop, length-append, length-drop}
 use lib.Seq.{take-at, getD-take, getD-drop, drop-drop}
 use borrow.Author.Tests.{le-leb, lt-leb}

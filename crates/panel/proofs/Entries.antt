@@ -1,8 +1,8 @@
 -- What the writer and the reader answer, as the numbers of the entries: the same values, and each small enough for 32 bits.
 -- Assumes nothing.
-use mathlib.Core.Path.{_≡_, refl, sym, ap, subst, _∙_}
+use mathlib.Core.Path.{_≡_, sym, ap, subst, _∙_}
 use mathlib.Core.List.{List}
-use Prim.Native.Nat.{ℕ, _^_, _/_, _≤_, _<_}
+use Prim.Native.Nat.{ℕ, _^_, _/_, _<_}
 use native.Mathlib.Omega.{arith}
 use lib.ListN.{length}
 use Rattle.tables.specs.Tables.{side}

@@ -1,15 +1,14 @@
 -- What the call answers once the buffers are filled, and that what is copied is the message.
 -- Assumes nothing.
-use mathlib.Core.Path.{_≡_, refl, sym, ap, ap₂, _∙_}
+use mathlib.Core.Path.{_≡_, refl, sym, ap₂}
 use mathlib.Core.List.{List, _++_}
 use Prim.Native.Nat.{ℕ, _*_, _/_, _≤_}
 use native.Mathlib.Omega.{arith}
 use lib.ListN.{length, take, drop}
 use lib.Seq.{length-take-le}
 use Rattle.parse.specs.declared.Sizes.{Sizes}
-use Rattle.parse.specs.declared.Parsing.{Parsing}
 use Rattle.parse.specs.declared.Parsing.the-variants.{Whole, Faulty}
-use Rattle.parse.specs.Parse.{Parsed, Message, Fault, message}
+use Rattle.parse.specs.Parse.{message}
 use Rattle.parse.specs.Answer.{answerOf, payloadAfter, listAfter}
 use Rattle.parse.specs.Steps.{FillReads}
 

@@ -3,24 +3,24 @@
 -- Assumes nothing.
 use mathlib.Core.Path.{_≡_, refl, sym, ap, ap₂, _∙_}
 use mathlib.Core.Bool.{Bool, true, false, cond, _||_}
-use mathlib.Core.Logic.{_⊎_, inl, inr, ⊎-elim}
+use mathlib.Core.Logic.{_⊎_, ⊎-elim}
 use mathlib.Core.List.{List, [], _∷_, _++_, append-assoc, append-nil}
-use Prim.Native.Nat.{ℕ, zero, suc, _+_, _-_, _*_, _/_, _%_, _^_, _<_, _≤_, min}
+use Prim.Native.Nat.{ℕ, zero, suc, _+_, _-_, _*_, _/_, _^_, _<_, _≤_, min}
 use native.Mathlib.Nat.{not-suc-le-zero, min-eq-left, min-eq-right}
 use native.Mathlib.Omega.{arith}
 use lib.Dec.{T, leb, ltb, eqb, leb→le}
-use lib.ListN.{length, getD, take, drop, replicate, length-append, length-drop, length-replicate, getD-replicate}
-use lib.Seq.{take-at, take-add, take-append-add, length-take-le}
+use lib.ListN.{length, take, drop, replicate, length-append, length-drop, length-replicate, getD-replicate}
+use lib.Seq.{take-add, take-append-add, length-take-le}
 use borrow.Author.Tests.{leb-true, lt-ltb, eq-eqb}
 use Rattle.basics.specs.Bits.{bits, byteBits, numberAfter, number, bytes}
 use Rattle.basics.specs.Lists.{AtMost}
-use Rattle.basics.proofs.Bits.{length-bits, bits-le, length-byteBits, byteBits-append, byteBits-le, bits-number, length-bytes}
+use Rattle.basics.proofs.Bits.{length-bits, bits-le, byteBits-append, byteBits-le, bits-number, length-bytes}
 use Rattle.basics.proofs.Lists.{at-most-append}
 use Rattle.cursor.proofs.Bits.{order, at-most-take, at-most-drop}
 use Rattle.tables.specs.Tables.{totals, checkRows, blockRows, total, checkCount, blockCount, countWidth, dataCount, Lawful}
 use Rattle.tables.proofs.Rules.{everywhere, rule}
-use Rattle.stream.specs.Stream.{codeOf, known, numericBits, alphanumericBits, body, bodyWidth, segments, segmentsWidth, lawfulList, counts, lawfulCharacters, fits, pads, wholeBytes, padded, dataCodewords, LawfulMessage}
-use Rattle.parse.specs.Parse.{Front, End, segment, ends, front, Parsed, Message, parse, mostData, message}
+use Rattle.stream.specs.Stream.{codeOf, known, numericBits, alphanumericBits, body, bodyWidth, segments, segmentsWidth, lawfulList, counts, fits, pads, wholeBytes, padded, dataCodewords, LawfulMessage}
+use Rattle.parse.specs.Parse.{End, ends, front, Message, parse, mostData, message}
 use Rattle.parse.proofs.Body.{both-left, both-right, by-mode}
 use Rattle.parse.proofs.Written.{body-length, CountsFit, segments-read}
 

@@ -4,19 +4,17 @@
 use mathlib.Core.Path.{_≡_, refl, sym, ap, ap₂, _∙_}
 use mathlib.Core.Bool.{Bool, true, false, cond}
 use mathlib.Core.List.{List, [], _∷_, _++_, append-assoc, append-nil}
-use Prim.Native.Nat.{ℕ, zero, suc, _+_, _-_, _*_, _/_, _<_, _≤_}
+use Prim.Native.Nat.{ℕ, suc, _+_, _-_, _*_, _<_, _≤_}
 use native.Mathlib.Omega.{arith}
 use lib.Dec.{leb}
 use lib.ListN.{length, take, drop}
-use lib.Seq.{drop-drop, length-take-le}
+use lib.Seq.{drop-drop}
 use Rattle.basics.specs.Bits.{byteBits}
 use Rattle.basics.proofs.Bits.{length-byteBits}
 use Rattle.stream.specs.Stream.{bodyWidth}
-use Rattle.tables.specs.Tables.{countWidth}
 use Rattle.parse.specs.declared.Progress.{Progress}
-use Rattle.parse.specs.declared.Parsing.{Parsing}
-use Rattle.parse.specs.declared.Parsing.the-variants.{Whole, Faulty}
-use Rattle.parse.specs.Parse.{characters, End, Segment, Refusal, headWidth, ends, front, segment, Parsed, Message, Fault, inFront, parse, mostData, message}
+use Rattle.parse.specs.declared.Parsing.the-variants.{Whole}
+use Rattle.parse.specs.Parse.{characters, End, Refusal, headWidth, ends, front, Parsed, Message, Fault, inFront, parse, mostData, message}
 use Rattle.parse.specs.Steps.{Load, StepAsks, Stepped, FillReads}
 use Rattle.parse.proofs.Front.{segment-whole, parse-segment, parse-refusal, parse-end}
 use Rattle.parse.proofs.Heads.{left-bits, going}

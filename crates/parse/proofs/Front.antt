@@ -1,18 +1,17 @@
 -- What `front` answers under which demands, and what `parse` does with each answer.
 -- Assumes nothing.
-use mathlib.Core.Path.{_≡_, refl, sym, ap, _∙_}
-use mathlib.Core.Bool.{Bool, true, false, cond, _||_}
-use mathlib.Core.Logic.{_⊎_, inl, inr, ⊎-elim}
+use mathlib.Core.Path.{_≡_, refl}
+use mathlib.Core.Bool.{Bool, true, false, cond}
 use mathlib.Core.List.{List, []}
 use Prim.Native.Nat.{ℕ, zero, suc, _+_, _<_, _≤_}
 use native.Mathlib.Omega.{arith}
-use lib.Dec.{leb, ltb, eqb}
+use lib.Dec.{leb}
 use lib.ListN.{length, take, drop}
-use borrow.Author.Tests.{eqb-true, ltb-true, ltb-false, leb-true, lt-ltb, le-ltb, le-leb, lt-leb, eq-eqb, ne-eqb}
+use borrow.Author.Tests.{leb-true, le-ltb, le-leb, ne-eqb}
 use Rattle.basics.specs.Bits.{number}
 use Rattle.tables.specs.Tables.{countWidth}
 use Rattle.stream.specs.Stream.{known, bodyWidth}
-use Rattle.parse.specs.Parse.{Front, End, Segment, Refusal, demand, characters, inRange, headWidth, segment, ends, front, Parsed, Message, Fault, inFront, parse}
+use Rattle.parse.specs.Parse.{Front, End, Segment, Refusal, demand, characters, inRange, headWidth, segment, ends, front, Message, Fault, inFront, parse}
 use Rattle.parse.proofs.Body.{by-mode}
 
 -- no known mode is 0

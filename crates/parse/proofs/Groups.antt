@@ -1,21 +1,20 @@
 -- The groups of a body, one after the other: the characters, the range and the bits of a body are those of its next group and of what is left.
 -- Assumes nothing.
-use mathlib.Core.Path.{_≡_, refl, sym, ap, _∙_}
-use mathlib.Core.Bool.{Bool, true, false, cond, _&&_}
+use mathlib.Core.Path.{_≡_, refl, ap, _∙_}
+use mathlib.Core.Bool.{Bool, true, false, _&&_}
 use mathlib.Core.Logic.{_⊎_, inl, inr, ⊎-elim}
 use mathlib.Core.List.{List, [], _∷_, _++_, append-assoc}
-use Prim.Native.Nat.{ℕ, zero, suc, _+_, _-_, _*_, _/_, _%_, _<_, _≤_}
+use Prim.Native.Nat.{ℕ, zero, suc, _+_, _-_, _/_, _%_, _≤_}
 use native.Mathlib.Nat.{not-suc-le-zero}
 use native.Mathlib.Omega.{arith}
-use lib.Dec.{leb, eqb}
+use lib.Dec.{leb}
 use lib.ListN.{length, take, drop, set, length-set}
 use lib.Seq.{take-suc-set}
-use borrow.Author.Tests.{le-leb, lt-leb, eq-eqb, ne-eqb}
+use borrow.Author.Tests.{le-leb, ne-eqb}
 use Rattle.basics.specs.Bits.{number, bytes}
 use Rattle.basics.specs.Lists.{AtMost}
 use Rattle.cursor.proofs.Bits.{number-small}
 use Rattle.stream.specs.Stream.{character, known, bodyWidth}
-use Rattle.parse.specs.declared.Group.{Group}
 use Rattle.parse.specs.Groups.{groupOf, groupCharacters, InGroup}
 use Rattle.parse.specs.Parse.{digits, digitsInRange, pairs, pairsInRange, characters, inRange}
 use Rattle.parse.proofs.Body.{by-mode}

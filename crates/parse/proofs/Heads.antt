@@ -1,11 +1,11 @@
 -- A segment's head, read at a place of the codewords: which demand fails, or that the segment stands whole.
 -- Assumes nothing.
-use mathlib.Core.Path.{_≡_, refl, sym, ap, _∙_}
+use mathlib.Core.Path.{_≡_, refl, ap, _∙_}
 use mathlib.Core.Bool.{Bool, true, false, cond, _||_}
 use mathlib.Core.List.{List}
-use Prim.Native.Nat.{ℕ, _+_, _-_, _*_, _^_, _<_, _≤_}
+use Prim.Native.Nat.{ℕ, _+_, _-_, _*_, _<_, _≤_}
 use native.Mathlib.Omega.{arith}
-use lib.Dec.{leb, ltb, eqb}
+use lib.Dec.{leb, eqb}
 use lib.ListN.{length, take, drop, length-drop}
 use lib.Seq.{drop-drop}
 use lib.Pow.{pow-mono}
@@ -16,7 +16,7 @@ use Rattle.cursor.specs.Cursor.{field}
 use Rattle.cursor.proofs.Bits.{at-most-drop, number-small}
 use Rattle.tables.specs.Tables.{countWidth}
 use Rattle.stream.specs.Stream.{known, bodyWidth}
-use Rattle.parse.specs.Parse.{characters, inRange, Front, End, Segment, Refusal, headWidth, segment, ends, front}
+use Rattle.parse.specs.Parse.{inRange, Refusal, headWidth, segment, ends, front}
 use Rattle.parse.specs.Steps.{Stands}
 use Rattle.parse.proofs.Front.{Whole}
 

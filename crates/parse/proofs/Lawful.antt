@@ -1,14 +1,14 @@
 -- `parsed-lawful`: what is read is a lawful message of its version and level. A group in range has characters of its mode, each body has
 -- as many characters as its count, and no segment runs past the data bits. `buffers-enough`: so it fits the reader's buffers.
 -- Assumes nothing.
-use mathlib.Core.Path.{_≡_, refl, sym, ap, ap₂, _∙_}
+use mathlib.Core.Path.{_≡_, refl, sym, ap, _∙_}
 use mathlib.Core.Bool.{Bool, true, false, cond, _&&_}
 use mathlib.Core.List.{List, [], _∷_, _++_}
-use Prim.Native.Nat.{ℕ, zero, suc, _+_, _-_, _*_, _/_, _%_, _^_, _<_, _≤_}
+use Prim.Native.Nat.{ℕ, zero, suc, _+_, _-_, _*_, _/_, _%_, _<_, _≤_}
 use native.Mathlib.Nat.{not-suc-le-zero}
 use native.Mathlib.Omega.{arith}
-use lib.Dec.{T, leb, ltb, eqb, leb→le}
-use lib.ListN.{length, getD, take, drop, length-append, length-drop}
+use lib.Dec.{T, leb, eqb}
+use lib.ListN.{length, take, drop, length-append, length-drop}
 use lib.Seq.{take-at, drop-at}
 use borrow.Author.Tests.{leb-true, le-leb}
 use Rattle.basics.specs.Bits.{byteBits, number, bytes}
@@ -16,10 +16,10 @@ use Rattle.basics.specs.Lists.{each, placeIn, AtMost}
 use Rattle.basics.proofs.Bits.{length-byteBits, byteBits-le, length-bytes}
 use Rattle.basics.proofs.Lists.{at-most-cons, at-most-append}
 use Rattle.basics.proofs.Test.{all, at}
-use Rattle.cursor.proofs.Bits.{at-most-drop, number-small, bytes-small}
-use Rattle.tables.specs.Tables.{countWidth, dataCount, Lawful, mostPayload, mostList}
+use Rattle.cursor.proofs.Bits.{at-most-drop, bytes-small}
+use Rattle.tables.specs.Tables.{dataCount, Lawful, mostPayload, mostList}
 use Rattle.stream.specs.Stream.{alphabet, codeOf, character, known, inMode, bodyWidth, segmentsWidth, lawfulList, counts, lawfulCharacters, fits, LawfulMessage}
-use Rattle.parse.specs.Parse.{digits, digitsInRange, pairs, pairsInRange, characters, inRange, Front, End, Segment, Refusal, headWidth, front, Parsed, Message, Fault, inFront, parse, mostData, message}
+use Rattle.parse.specs.Parse.{digits, digitsInRange, pairs, pairsInRange, characters, inRange, Front, End, Segment, Refusal, headWidth, front, Parsed, Message, Fault, inFront, parse, message}
 use Rattle.parse.proofs.Body.{both-left, both-right, both-true, by-mode}
 use Rattle.parse.proofs.Front.{Whole, segment-whole, parse-segment, parse-refusal, parse-end}
 use Rattle.parse.proofs.Encode.{data-most}

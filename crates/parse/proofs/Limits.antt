@@ -1,7 +1,7 @@
 -- The definition at its edges, computed: the limits of groups, and which refusal comes first.
 -- Assumes nothing.
 use mathlib.Core.Path.{_≡_, refl}
-use mathlib.Core.List.{List, [], _∷_, _++_}
+use mathlib.Core.List.{[], _∷_, _++_}
 use Prim.Native.Nat.{ℕ, _*_}
 use Rattle.basics.specs.Bits.{bits, number, numberAfter}
 use Rattle.tables.specs.Tables.{countWidth}

@@ -1,24 +1,22 @@
 -- One segment more: it has room in both buffers, and what the step leaves there is what the front of the stream says.
 -- Assumes nothing.
-use mathlib.Core.Path.{_≡_, refl, sym, ap, ap₂, subst, _∙_}
+use mathlib.Core.Path.{_≡_, refl, sym, ap, _∙_}
 use mathlib.Core.Bool.{Bool, true, false, cond}
-use mathlib.Core.List.{List, [], _∷_, _++_}
+use mathlib.Core.List.{List}
 use Prim.Native.Nat.{ℕ, _+_, _-_, _*_, _<_, _≤_}
 use native.Mathlib.Omega.{arith}
 use lib.Dec.{leb}
 use lib.ListN.{length, take, drop, set}
 use lib.Seq.{drop-drop}
 use Rattle.basics.specs.Bits.{byteBits, number}
-use Rattle.basics.proofs.Bits.{byteBits-le}
 use Rattle.cursor.specs.Cursor.{field}
 use Rattle.cursor.specs.declared.Cursor.{Cursor}
 use Rattle.tables.specs.Tables.{countWidth}
-use Rattle.stream.specs.Stream.{known, bodyWidth}
-use Rattle.parse.specs.declared.Head.{Head}
+use Rattle.stream.specs.Stream.{bodyWidth}
 use Rattle.parse.specs.declared.Progress.{Progress}
-use Rattle.parse.specs.declared.Reading.the-variants.{Past, OutOfRange}
-use Rattle.parse.specs.Parse.{characters, inRange, Segment, Refusal, headWidth, ends, front, mostData}
-use Rattle.parse.specs.Steps.{Stands, HeadReads, BodyAsks, BodyReads, Load, StepAsks, Stepped}
+use Rattle.parse.specs.declared.Reading.the-variants.{Past}
+use Rattle.parse.specs.Parse.{inRange, Refusal, headWidth, front, mostData}
+use Rattle.parse.specs.Steps.{Stands, BodyAsks, BodyReads, Load, StepAsks, Stepped}
 use Rattle.parse.proofs.Front.{known-small, whole-segment}
 use Rattle.parse.proofs.Groups.{put-two}
 use Rattle.parse.proofs.Heads.{left-bits, field-small, width-small, going, stands-whole, stands-broken}

@@ -1,25 +1,22 @@
 -- A stream that was written is read back. Each segment's head is its mode and count, its body reads back, and what follows the last
 -- segment is up to four zero bits as fit, so fewer than four bits or mode 0 end the stream.
 -- Assumes nothing.
-use mathlib.Core.Path.{_≡_, refl, sym, ap, ap₂, subst, _∙_}
-use mathlib.Core.Bool.{Bool, true, false, cond, _&&_, _||_}
-use mathlib.Core.Logic.{_⊎_, inl, inr, ⊎-elim}
+use mathlib.Core.Path.{_≡_, refl, sym, ap, ap₂, _∙_}
+use mathlib.Core.Bool.{true}
 use mathlib.Core.List.{List, [], _∷_, _++_, append-assoc}
-use Prim.Native.Nat.{ℕ, zero, suc, _+_, _-_, _*_, _/_, _%_, _^_, _<_, _≤_, min}
-use native.Mathlib.Nat.{le-of-suc-le-suc, not-suc-le-zero}
+use Prim.Native.Nat.{ℕ, zero, suc, _+_, _-_, _*_, _/_, _%_, _^_, _<_, _≤_}
+use native.Mathlib.Nat.{not-suc-le-zero}
 use native.Mathlib.Omega.{arith}
-use lib.Dec.{leb, ltb, eqb, T, leb→le}
-use lib.ListN.{length, getD, take, drop, replicate, length-append, take-append-drop, length-drop, length-replicate}
-use lib.Seq.{take-at, drop-at, length-take-le, getD-take, getD-drop, drop-drop}
-use borrow.Author.Tests.{leb-true, lt-ltb, le-ltb, eq-eqb}
-use Rattle.basics.specs.Bits.{bits, byteBits, number, bytes}
+use lib.ListN.{length, take, drop, length-append, take-append-drop, length-drop}
+use lib.Seq.{drop-at, length-take-le, drop-drop}
+use Rattle.basics.specs.Bits.{bits, number}
 use Rattle.basics.specs.Lists.{each, AtMost}
 use Rattle.cursor.proofs.Bits.{at-most-take, at-most-drop}
-use Rattle.basics.proofs.Bits.{length-bits, length-byteBits, byteBits-append}
-use Rattle.tables.specs.Tables.{countWidth, dataCount, Lawful}
+use Rattle.basics.proofs.Bits.{length-bits, length-byteBits}
+use Rattle.tables.specs.Tables.{countWidth}
 use Rattle.stream.specs.Stream
-use Rattle.stream.specs.Stream.{codeOf, known, inMode, numericBits, alphanumericBits, body, bodyWidth, segments, segmentsWidth, lawfulList, counts, lawfulCharacters, fits, LawfulMessage}
-use Rattle.parse.specs.Parse.{characters, inRange, Front, End, Segment, headWidth, front, Parsed, Message, inFront, parse, message}
+use Rattle.stream.specs.Stream.{codeOf, known, inMode, numericBits, alphanumericBits, body, bodyWidth, segments, lawfulList, counts, lawfulCharacters}
+use Rattle.parse.specs.Parse.{characters, inRange, End, headWidth, front, Message, inFront, parse}
 use Rattle.parse.proofs.Body.{both-left, both-right, by-mode, number-front, drop-front, body-written}
 use Rattle.parse.proofs.Front.{known-small, Whole, whole-segment, parse-segment, parse-end}
 

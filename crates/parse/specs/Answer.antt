@@ -3,7 +3,6 @@
 use mathlib.Core.List.{List, _++_}
 use Prim.Native.Nat.{ℕ, _/_}
 use lib.ListN.{length, drop}
-use Rattle.parse.specs.declared.Sizes.{Sizes}
 use Rattle.parse.specs.declared.Parsing.{Parsing}
 use Rattle.parse.specs.declared.Parsing.the-variants.{Whole, Faulty}
 use Rattle.parse.specs.Parse.{Parsed, Message, Fault}

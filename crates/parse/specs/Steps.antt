@@ -9,15 +9,12 @@ use lib.Dec.{leb}
 use lib.ListN.{length, take, drop}
 use Rattle.basics.specs.Bits.{byteBits, number}
 use Rattle.tables.specs.Tables.{countWidth}
-use Rattle.cursor.specs.declared.Cursor.{Cursor}
 use Rattle.stream.specs.Stream.{known, bodyWidth}
 use Rattle.parse.specs.declared.Progress.{Progress}
 use Rattle.parse.specs.declared.Step.{Step}
 use Rattle.parse.specs.declared.Step.the-variants.{Next, NoStep}
-use Rattle.parse.specs.declared.Sizes.{Sizes}
 use Rattle.parse.specs.declared.Parsing.{Parsing}
 use Rattle.parse.specs.declared.Parsing.the-variants.{Whole, Faulty}
-use Rattle.parse.specs.declared.Head.{Head}
 use Rattle.parse.specs.declared.Heading.{Heading}
 use Rattle.parse.specs.declared.Heading.the-variants.{Found, Refused}
 use Rattle.parse.specs.declared.Reading.{Reading}

@@ -2,7 +2,7 @@
 -- Assumes nothing.
 use mathlib.Core.Path.{_≡_, refl, sym, ap, ap₂, _∙_}
 use mathlib.Core.Bool.{Bool, true, false, cond, _&&_}
-use mathlib.Core.List.{List, [], _++_, map}
+use mathlib.Core.List.{List, _++_, map}
 use Prim.Native.Nat.{ℕ, zero, suc, _+_, _*_, _/_, _%_, _≤_, _<_}
 use mathlib.Core.Logic.{⊎-elim}
 use native.Mathlib.Nat.{le-refl, le-trans, le-of-suc-le-suc, eq-or-lt-of-le}
@@ -10,7 +10,7 @@ use native.Mathlib.Omega.{arith}
 use lib.Dec.{eqb, ltb, leb}
 use lib.ListN.{length, getD, take, drop}
 use lib.Seq.{take-add, take-all}
-use borrow.Author.Tests.{leb-true, eq-eqb, lt-ltb, le-ltb, lt-leb, le-leb}
+use borrow.Author.Tests.{leb-true, eq-eqb, lt-ltb, lt-leb, le-leb}
 use Rattle.basics.specs.Lists.{from, upTo, joined}
 use Rattle.basics.proofs.Lists.{map-upTo-suc, joined-append, joined-one}
 use Rattle.part.specs.Part.{startOf, spanOf, partOf, nowhere}

@@ -12,7 +12,7 @@ use native.Mathlib.Decide.{ℕ-discrete, decLe}
 use native.Mathlib.Omega.{arith}
 use borrow.Author.Tests.{le-leb, lt-leb, eq-eqb, ne-eqb}
 use lib.Dec.{leb, eqb}
-use lib.ListN.{length, getD}
+use lib.ListN.{getD}
 use Rattle.basics.specs.Sums.{sum}
 use Rattle.basics.proofs.Sums.{sum-same}
 use Rattle.penalty.specs.Penalty.{patterns, run, runs, runsAfter, windows}

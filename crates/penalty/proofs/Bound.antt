@@ -1,16 +1,15 @@
 -- How much each part of the score adds at the most, and so the whole: at side 57 no more than 230098.
 -- A line of n modules adds at most n − 2 by its runs and 40 by each of its n − 10 windows, a square 3, the dark share 100.
 -- Assumes nothing.
-use mathlib.Core.Path.{_≡_, refl, sym, ap, _∙_}
 use mathlib.Core.List.{List, [], _∷_}
-use Prim.Native.Nat.{ℕ, zero, suc, _+_, _-_, _*_, _/_, _<_, _≤_}
-use native.Mathlib.Nat.{suc-mul, zero-mul, mul-le-mul, le-refl, le-trans, div-le-of-le-mul}
+use Prim.Native.Nat.{ℕ, zero, suc, _+_, _-_, _*_, _≤_}
+use native.Mathlib.Nat.{suc-mul, mul-le-mul, le-refl, le-trans, div-le-of-le-mul}
 use native.Mathlib.Omega.{arith}
 use lib.Dec.{eqb}
-use lib.ListN.{length, getD}
+use lib.ListN.{length}
 use Rattle.basics.specs.Sums.{sum, apart}
 use Rattle.basics.proofs.Sums.{one-le}
-use Rattle.penalty.specs.Penalty.{rows, columns, runs, windows, lines, squares, dark, share, score}
+use Rattle.penalty.specs.Penalty.{rows, columns, lines, squares, dark, share, score}
 use Rattle.penalty.specs.Lines.{line, linesFrom, squaresFrom}
 use Rattle.penalty.specs.Promise.{ScoreBound}
 use Rattle.penalty.proofs.Lines.{length-line, rows-lines, columns-lines}

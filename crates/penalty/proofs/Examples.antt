@@ -1,9 +1,7 @@
 -- Cases j and k of the paper, and a line in which both forms of the pattern overlap.
 -- Assumes nothing.
 use mathlib.Core.Path.{_≡_, refl}
-use mathlib.Core.Bool.{cond}
-use mathlib.Core.List.{List, [], _∷_, map}
-use Prim.Native.Nat.{ℕ}
+use mathlib.Core.List.{[], _∷_, map}
 use lib.ListN.{replicate}
 use Rattle.basics.specs.Lists.{same}
 use Rattle.basics.specs.Sums.{sum}

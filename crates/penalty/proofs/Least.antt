@@ -13,7 +13,7 @@ use borrow.Author.Tests.{ltb-true, ltb-false}
 use lib.Dec.{ltb}
 use lib.ListN.{length, getD}
 use Rattle.penalty.specs.Penalty.{leastAfter, leastPlace}
-use Rattle.penalty.specs.Promise.{LeastRule, Least}
+use Rattle.penalty.specs.Promise.{Least}
 
 module _ (all : List ℕ) where
   -- `place` has the least of the first k

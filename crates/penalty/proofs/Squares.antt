@@ -1,17 +1,16 @@
 -- The squares, row by row, and how much they add at the most.
 -- Assumes nothing.
-use mathlib.Core.Path.{_≡_, refl, sym, ap, ap₂, _∙_}
-use mathlib.Core.Bool.{Bool, true, false, _&&_}
-use mathlib.Core.List.{List, [], map}
+use mathlib.Core.Path.{_≡_, _∙_}
+use mathlib.Core.Bool.{_&&_}
+use mathlib.Core.List.{List, []}
 use Prim.Native.Nat.{ℕ, zero, suc, _+_, _-_, _*_, _<_, _≤_}
-use native.Mathlib.Nat.{suc-mul, mul-le-mul-right, add-assoc, zero-mul}
+use native.Mathlib.Nat.{suc-mul}
 use native.Mathlib.Numerals.{add-one}
 use native.Mathlib.Omega.{arith}
 use lib.Dec.{eqb}
-use lib.ListN.{length, getD, take, drop}
+use lib.ListN.{getD, take, drop}
 use lib.Seq.{getD-take, getD-drop}
-use Rattle.basics.specs.Lists.{upTo}
-use Rattle.basics.specs.Sums.{sum, one}
+use Rattle.basics.specs.Sums.{sum}
 use Rattle.basics.proofs.Lists.{getD-map-upTo}
 use Rattle.basics.proofs.Sums.{sum-same, one-le}
 use Rattle.penalty.specs.Penalty.{rows, squares, at}

@@ -1,29 +1,28 @@
 -- A drawn symbol is read to what was drawn after any damage within its bounds: each block's own codeword stands for it, so no step refuses,
 -- and the data codewords of those codewords are the message's.
 -- Assumes nothing.
-use mathlib.Core.Path.{_≡_, refl, sym, ap, ap₂, subst, _∙_}
-use mathlib.Core.Logic.{_≢_, inl, inr, ⊎-elim}
-use mathlib.Core.List.{List, map}
-use Prim.Native.Nat.{ℕ, zero, suc, _+_, _*_, _≤_, _<_}
+use mathlib.Core.Path.{_≡_, refl, sym, ap, subst, _∙_}
+use mathlib.Core.Logic.{inr, ⊎-elim}
+use mathlib.Core.List.{List}
+use Prim.Native.Nat.{ℕ, _+_, _*_, _≤_, _<_}
 use native.Mathlib.Omega.{arith}
-use lib.ListN.{length, getD, take}
-use Rattle.basics.specs.Lists.{upTo, joined, AtMost}
+use lib.ListN.{length}
+use Rattle.basics.specs.Lists.{AtMost}
 use Rattle.basics.specs.Sums.{sum}
-use Rattle.basics.proofs.Lists.{length-map-upTo, map-upTo-same}
+use Rattle.basics.proofs.Lists.{length-map-upTo}
 use Rattle.tables.specs.Tables
 use Rattle.tables.specs.Version.{Square}
-use Rattle.code.specs.Code.{Codeword, Stands, differing, unreadable}
+use Rattle.code.specs.Code.{Codeword, Stands}
 use Rattle.words.specs.Words.{Near, formatWord, formatBits, versionWord}
 use Rattle.words.proofs.Words.{format-only, version-only}
 use Rattle.words.proofs.Bits.{format-bits-lt}
-use Rattle.stream.specs.Stream.{LawfulMessage, dataCodewords}
 use Rattle.parse.specs.Parse.{Message, message}
-use Rattle.blocks.specs.Blocks.{block, gathered, dataOf}
-use Rattle.modules.specs.Modules.{symbol, formatPlaces, versionPlaces}
+use Rattle.blocks.specs.Blocks.{gathered, dataOf}
+use Rattle.modules.specs.Modules.{formatPlaces, versionPlaces}
 use Rattle.scan.specs.Received.{copied, readable, received}
 use Rattle.writer.specs.Writer.{Request, Drawn, draw, codewords}
-use Rattle.reader.specs.Reader.{Answer, Read, Reads, answer, OtherVersion, TwoFormats, NoCodeword, Corrected, FormatStands, VersionStands, blockWord, blockFlags}
-use Rattle.promises.specs.Promises.{Bytes, LargeEnough, wrong, lost, CopyKept, Damaged, Survives}
+use Rattle.reader.specs.Reader.{Read, Reads, answer, OtherVersion, TwoFormats, Corrected, FormatStands, blockWord, blockFlags}
+use Rattle.promises.specs.Promises.{Bytes, LargeEnough, wrong, lost, Survives}
 
 -- what a symbol holds that was drawn for a request, given what the crates below show
 pub record Holds (r : Request) (v mask : ℕ) (modules : List ℕ) : Type 0 where

@@ -1,36 +1,32 @@
 -- What a drawn symbol holds: its blocks are the codewords that were dealt, their data is the message's, its copies are the words. So it reads back.
 -- Assumes nothing.
-use mathlib.Core.Path.{_≡_, refl, sym, ap, ap₂, subst, _∙_}
+use mathlib.Core.Path.{_≡_, refl, sym, ap, ap₂, _∙_}
 use mathlib.Core.Bool.{Bool, true, false, not, _&&_}
 use mathlib.Core.List.{List, [], _∷_, map}
-use Prim.Native.Nat.{ℕ, zero, suc, _+_, _-_, _*_, _≤_, _<_}
-use native.Mathlib.Nat.{le-refl}
+use Prim.Native.Nat.{ℕ, _+_, _-_, _≤_, _<_}
 use native.Mathlib.Omega.{arith}
-use lib.Bits.{bitAnd, bitXor, xor-self, and-zero-l}
+use lib.Bits.{xor-self, and-zero-l}
 use lib.Count.{onesIn}
 use lib.Dec.{eqb, ltb}
 use lib.ListN.{length, getD, take, drop, replicate, length-take}
 use lib.Seq.{getD-take, getD-drop}
 use borrow.Author.Tests.{eq-eqb, lt-ltb, le-leb}
-use Rattle.basics.specs.Lists.{upTo, AtMost}
-use Rattle.basics.specs.Sums.{sum, one, tally}
+use Rattle.basics.specs.Lists.{AtMost}
+use Rattle.basics.specs.Sums.{one, tally}
 use Rattle.basics.specs.Bits.{lowFirst}
 use Rattle.basics.proofs.Lists.{map-upTo-same, getD-map-upTo, length-map-upTo}
 use Rattle.basics.proofs.Sums.{sum-zero}
 use Rattle.tables.specs.Tables
 use Rattle.tables.proofs.Rules.{checks-most}
-use Rattle.code.specs.Code.{Codeword, checks, differing, unreadable}
+use Rattle.code.specs.Code.{Codeword, differing, unreadable}
 use Rattle.code.proofs.Codewords.{checks-codeword}
 use Rattle.words.specs.Words.{Near, formatWord, formatBits, versionWord}
-use Rattle.stream.specs.Stream.{LawfulMessage, dataCodewords}
-use Rattle.parse.specs.Parse.{Message, message}
-use Rattle.parse.proofs.Encode.{parse-encode}
 use Rattle.blocks.specs.Blocks.{Cell, block, sent, sentOrder, gathered, dataOf}
 use Rattle.blocks.proofs.Order.{Stood, sent-once}
 use Rattle.blocks.proofs.Dealing.{length-sent, sent-at, length-block, deal-gather, data-same, data-back}
 use Rattle.modules.specs.Modules.{symbol, formatPlaces, versionPlaces}
-use Rattle.modules.proofs.Geometry.{symbol-length, symbol-le, at-any}
-use Rattle.scan.specs.Received.{copied, readable, received, flag, codeword}
+use Rattle.modules.proofs.Geometry.{at-any}
+use Rattle.scan.specs.Received.{copied, readable, received}
 use Rattle.scan.proofs.Drawn.{codeword-drawn, flag-drawn, format-word-drawn, version-word-drawn}
 use Rattle.reader.specs.Reader.{blockWord, blockFlags}
 use Rattle.promises.specs.Promises.{CopyKept}

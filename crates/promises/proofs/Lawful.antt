@@ -1,12 +1,11 @@
 -- What is read is a lawful message that fits the caller's buffers: it is what the data codewords of the blocks hold, and there are as many of
 -- them as the version and level has.
 -- Assumes nothing.
-use mathlib.Core.Path.{_≡_, sym, subst, subst₂, _∙_}
+use mathlib.Core.Path.{_≡_, sym, subst, subst₂}
 use mathlib.Core.Logic.{inl, inr}
 use mathlib.Core.List.{List}
 use Prim.Native.Nat.{ℕ, zero, suc, _*_, _≤_, _<_}
 use native.Mathlib.Omega.{arith}
-use lib.ListN.{length}
 use Rattle.basics.specs.Sums.{sum}
 use Rattle.tables.specs.Tables
 use Rattle.tables.proofs.Rules.{room-most, checks-most, blocks-most}
@@ -14,9 +13,9 @@ use Rattle.stream.specs.Stream.{LawfulMessage}
 use Rattle.parse.specs.Parse.{Parsed, Message, Fault, message}
 use Rattle.parse.proofs.Lawful.{parsed-lawful, buffers-enough}
 use Rattle.scan.specs.Received.{received}
-use Rattle.reader.specs.Reader.{Answer, Read, Refused, answer, First, Reads, Versioned, Formatted, Corrected}
+use Rattle.reader.specs.Reader.{Read, Refused, answer, First, Reads}
 use Rattle.reader.proofs.Data.{data-length}
-use Rattle.promises.specs.Promises.{LawfulReading, ReadsLawful}
+use Rattle.promises.specs.Promises.{ReadsLawful}
 
 module _ (v level mask t e : ℕ) (payload list : List ℕ) where
   -- a reading is no refusal

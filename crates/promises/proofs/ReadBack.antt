@@ -4,12 +4,11 @@ use mathlib.Core.Path.{_≡_, refl, sym, ap, subst, subst₂, _∙_}
 use mathlib.Core.Logic.{inl, inr, by-cases}
 use mathlib.Core.Bool.{Bool, true, false}
 use mathlib.Core.List.{List}
-use Prim.Native.Nat.{ℕ, _+_, _*_, _≤_, _<_}
+use Prim.Native.Nat.{ℕ, _≤_, _<_}
 use native.Mathlib.Decide.{ℕ-discrete}
 use native.Mathlib.Omega.{arith}
 use lib.ListN.{length}
 use Rattle.basics.specs.Lists.{AtMost}
-use Rattle.basics.specs.Sums.{sum}
 use Rattle.basics.proofs.Sums.{sum-zero}
 use Rattle.tables.specs.Tables
 use Rattle.stream.specs.Stream.{LawfulMessage, dataCodewords, lawfulList, counts, lawfulCharacters, fits}
@@ -26,7 +25,7 @@ use Rattle.writer.proofs.Drawn.{Sound, sound, drawn-sound, drawn-rules, drawn-m
 use Rattle.writer.proofs.Faults.{list-faulty, characters-faulty}
 use Rattle.writer.proofs.Fit.{fit-rule}
 use Rattle.reader.specs.Reader.{Read, Reads, blockWord, blockFlags}
-use Rattle.promises.specs.Promises.{Bytes, LargeEnough, Damaged, Survives, ReadBack, lost}
+use Rattle.promises.specs.Promises.{Bytes, Damaged, Survives, ReadBack, lost}
 use Rattle.promises.proofs.Damage.{Holds}
 use Rattle.promises.proofs.Damage as kept
 use Rattle.promises.proofs.Drawn.{block-codeword, word-dealt, data-dealt, formats-dealt, versions-dealt, none-lost, none-wrong, format-kept, version-kept}

@@ -1,30 +1,28 @@
 -- Two matrices that agree on data modules (the surplus left out), format and version modules get one answer: the copies, the codewords and the
 -- flags are the same numbers, so each step of `Reads` is the same.
 -- Assumes nothing.
-use mathlib.Core.Path.{_≡_, refl, sym, ap, ap₂, subst, subst₂, _∙_}
-use mathlib.Core.Logic.{_≢_, _⊎_, inl, inr, ⊎-elim, by-cases}
+use mathlib.Core.Path.{_≡_, refl, sym, ap, ap₂, subst, _∙_}
+use mathlib.Core.Logic.{_⊎_, inl, inr, ⊎-elim, by-cases}
 use mathlib.Core.Bool.{cond}
-use mathlib.Core.List.{List, [], _∷_, _++_, map, List·Memᴰ, List·Memᴰ·head, List·Memᴰ·tail, List·Memᴰ·cases-cons, List·Memᴰ·not-nil}
+use mathlib.Core.List.{List, [], _∷_, map, List·Memᴰ, List·Memᴰ·head, List·Memᴰ·tail, List·Memᴰ·cases-cons, List·Memᴰ·not-nil}
 use Prim.Native.Nat.{ℕ, zero, suc, _+_, _*_, _/_, _%_, _≤_, _<_}
 use native.Mathlib.Nat.{mul-lt-mul-of-pos-left, mul-lt-mul-of-pos-right, le-of-suc-le-suc}
 use native.Mathlib.Decide.{decLt}
 use native.Mathlib.Omega.{arith}
 use lib.Bits.{bitXor}
 use lib.Dec.{eqb, ltb}
-use lib.ListN.{length, getD, take, drop}
+use lib.ListN.{length, take, drop}
 use lib.Seq.{take-nil}
-use Rattle.basics.specs.Lists.{upTo, AtMost}
 use Rattle.basics.specs.Sums.{one}
 use Rattle.basics.specs.Bits.{lowFirst}
 use Rattle.basics.proofs.Lists.{map-upTo-same}
 use Rattle.tables.specs.Tables
 use Rattle.tables.specs.Version.{Square}
-use Rattle.blocks.specs.Blocks.{gathered, sentPlace}
+use Rattle.blocks.specs.Blocks.{gathered}
 use Rattle.blocks.proofs.Order.{sent-once}
-use Rattle.words.specs.Words.{Near}
 use Rattle.modules.specs.Modules.{order, flips, formatPlaces, versionPlaces}
 use Rattle.scan.specs.Received.{copied, readable, unmasked, received, eight, flag, codeword}
-use Rattle.reader.specs.Reader.{Answer, First, Reads, Versioned, Formatted, Corrected, FormatStands, VersionStands, NoVersion, Above, OtherVersion, NoFormat, TwoFormats, NoCodeword, Small, BlockStands, blockWord, blockFlags}
+use Rattle.reader.specs.Reader.{Answer, First, Reads, Versioned, Formatted, FormatStands, VersionStands, Above, OtherVersion, NoFormat, TwoFormats, BlockStands, blockWord, blockFlags}
 use Rattle.promises.specs.Promises.{Agree, SameWhere, SameModules}
 
 -- ---- lists

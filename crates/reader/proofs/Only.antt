@@ -9,7 +9,6 @@ use native.Mathlib.Decide.{ℕ-discrete}
 use native.Mathlib.Omega.{arith}
 use lib.ListN.{length, take}
 use Rattle.basics.specs.Lists.{upTo, joined}
-use Rattle.basics.specs.Sums.{sum}
 use Rattle.basics.proofs.Lists.{length-upTo, length-map, map-upTo-same}
 use Rattle.basics.proofs.Sums.{sum-same}
 use Rattle.tables.specs.Tables

@@ -21,7 +21,7 @@ use Rattle.reader.specs.declared.Meta.{Meta}
 use Rattle.reader.specs.declared.Answered.{Answered}
 use Rattle.reader.specs.declared.Answered.the-variants.{Read as Told, Refused as Denied}
 use Rattle.reader.specs.declared.Format.the-variants.{NoWord}
-use Rattle.reader.specs.Reader.{Answer, Read, Refused, answer, First, Reads, Small, NoVersion, Above, OtherVersion, NoFormat, TwoFormats, NoCodeword, Formatted, Corrected, payloadAfter, listAfter}
+use Rattle.reader.specs.Reader.{Answer, Refused, answer, First, Reads, Small, NoVersion, Above, OtherVersion, NoFormat, TwoFormats, NoCodeword, Formatted, Corrected, payloadAfter, listAfter}
 use Rattle.reader.specs.Steps.{FormatRead, FormatsRead, WithinBounds}
 use Rattle.reader.specs.Answers.{Answers, Finished, answered}
 

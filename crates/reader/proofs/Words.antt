@@ -1,13 +1,11 @@
 -- What the copies of the version and format words stand for, from the one word near each: at most one word stands, so the answer of each copy
 -- decides the step.
 -- Assumes nothing.
-use mathlib.Core.Path.{_≡_, refl, sym, ap, subst, subst₂, _∙_}
-use mathlib.Core.Logic.{_≢_, _⊎_, inl, inr}
+use mathlib.Core.Path.{_≡_, refl, sym, subst, subst₂, _∙_}
+use mathlib.Core.Logic.{inl, inr}
 use mathlib.Core.List.{List}
 use Prim.Native.Nat.{ℕ, zero, suc, _^_, _≤_, _<_}
 use native.Mathlib.Omega.{arith}
-use lib.ListN.{length}
-use Rattle.tables.specs.Tables.{lastVersion}
 use Rattle.words.specs.Words.{Near, formatWord, formatBits, levelOf, maskOf}
 use Rattle.words.specs.Found.{FormatNear, VersionNear, FormatFound, VersionFound}
 use Rattle.words.specs.declared.Found.{Found}
@@ -21,9 +19,9 @@ use Rattle.scan.specs.Scan.{CopyRead}
 use Rattle.scan.proofs.Copies.{format-length, version-length, readable-lt}
 use Rattle.reader.specs.declared.Meta.{Meta}
 use Rattle.reader.specs.declared.Copies.the-variants.{Agreeing, Other}
-use Rattle.reader.specs.declared.Format.the-variants.{Word as Formatted, NoWord as NotFormatted}
-use Rattle.reader.specs.Reader.{VersionStands, OtherVersion, FormatStands, NoFormat, TwoFormats}
-use Rattle.reader.specs.Steps.{VersionCopy, VersionsRead, FormatRead, FormatsRead}
+use Rattle.reader.specs.declared.Format.the-variants.{NoWord as NotFormatted}
+use Rattle.reader.specs.Reader.{OtherVersion, FormatStands, NoFormat}
+use Rattle.reader.specs.Steps.{VersionCopy, FormatRead, FormatsRead}
 
 -- ---- a copy as it was read
 

@@ -2,7 +2,7 @@
 -- codeword's bit flipped by the mask, and the mask taken off flips it back.
 -- Assumes nothing.
 use mathlib.Core.Path.{_≡_, refl, sym, ap, _∙_}
-use mathlib.Core.Bool.{Bool, true, false, cond}
+use mathlib.Core.Bool.{false, cond}
 use mathlib.Core.List.{List, [], _∷_, map}
 use Prim.Native.Nat.{ℕ, zero, suc, _+_, _*_, _/_, _%_, _^_, _≤_, _<_}
 use native.Mathlib.Nat.{mod-eq-of-lt, mod-one, div-one, pow-suc, mul-comm, add-comm}
@@ -16,7 +16,7 @@ use lib.Pow.{pow-pos, shr-shr}
 use lib.Seq.{ext-getD, getD-take, getD-drop, length-take-le}
 use borrow.Author.Tests.{ne-eqb, le-leb}
 use Rattle.basics.specs.Sums.{one}
-use Rattle.basics.specs.Bits.{bitOf, bits, byteBits, number, lowFirst}
+use Rattle.basics.specs.Bits.{bitOf, bits, byteBits, lowFirst}
 use Rattle.basics.specs.Lists.{from, upTo, any, AtMost}
 use Rattle.basics.proofs.Bits.{bit-le, bits-le, length-byteBits, byteBits-le, take-byteBits, number-bits}
 use Rattle.basics.proofs.Lists.{length-map, getD-map, length-map-upTo, getD-map-upTo}
@@ -26,7 +26,7 @@ use Rattle.words.specs.Words.{formatWord, formatBits, versionWord}
 use Rattle.words.proofs.Bits.{format-bits-lt, format-word-lt, version-word-lt}
 use Rattle.modules.specs.Modules.{order, flips, symbol, formatPlaces, versionPlaces}
 use Rattle.modules.proofs.Geometry.{at-any, flips-le, filled, format-drawn, version-drawn, order-length}
-use Rattle.scan.specs.Received.{copied, readable, unmasked, received, eight, flag, codeword}
+use Rattle.scan.specs.Received.{copied, unmasked, received, eight, flag, codeword}
 
 -- ---- numbers from their bits, the least significant first
 

@@ -4,10 +4,10 @@ use mathlib.Core.Path.{_≡_, refl, sym, ap, _∙_}
 use mathlib.Core.Bool.{Bool, true, false, not, cond, _&&_, _||_}
 use mathlib.Core.List.{List, [], _∷_, _++_, map}
 use Prim.Native.Nat.{ℕ, zero, suc, _+_, _-_, _*_, _/_, _%_, _^_, _≤_, _<_}
-use native.Mathlib.Nat.{div-one, pow-suc, pow-zero, mul-add-div, mul-add-mod-self-left, div-eq-of-lt, mod-eq-of-lt, add-zero, add-comm, div-div-eq-div-mul, mul-comm}
+use native.Mathlib.Nat.{div-one, pow-suc, mul-add-div, mul-add-mod-self-left, div-eq-of-lt, mod-eq-of-lt, add-zero, add-comm, div-div-eq-div-mul, mul-comm}
 use native.Mathlib.Omega.{arith}
 use lib.Dec.{eqb, leb, ltb}
-use lib.ListN.{length, getD, drop, length-append, List·getD-append}
+use lib.ListN.{length, getD, length-append, List·getD-append}
 use borrow.Author.Tests.{ne-eqb}
 use Rattle.basics.specs.Bits.{bitOf, lowFirst}
 use Rattle.basics.specs.Lists.{upTo, placeIn, AtMost}

@@ -1,6 +1,6 @@
 -- What a scan of a matrix adds with each module: to the number and the flag of a codeword, and to the data modules met so far.
 -- Assumes nothing.
-use mathlib.Core.Path.{_≡_, refl, sym, ap, ap₂, _∙_}
+use mathlib.Core.Path.{_≡_, refl, sym, ap, _∙_}
 use mathlib.Core.Bool.{Bool, true, false, cond, _||_}
 use mathlib.Core.List.{List, [], _∷_, _++_, map}
 use Prim.Native.Nat.{ℕ, zero, suc, _+_, _-_, _*_, _/_, _%_, _≤_, _<_}
@@ -13,7 +13,7 @@ use borrow.Author.Tests.{eq-eqb}
 use Rattle.modules.proofs.Kept.{not-both}
 use lib.ListN.{length, getD, set, take, drop, length-take}
 use lib.Seq.{take-suc, take-suc-set, getD-take, getD-drop}
-use Rattle.basics.specs.Bits.{number, numberAfter, bitOf}
+use Rattle.basics.specs.Bits.{number, numberAfter}
 use Rattle.basics.specs.Lists.{upTo, keep, any, AtMost}
 use Rattle.basics.specs.Sums.{one}
 use Rattle.basics.proofs.Bits.{numberAfter-append}

@@ -6,7 +6,7 @@ use mathlib.Core.List.{List, [], _∷_, _++_}
 use Prim.Native.Nat.{ℕ, zero, suc, _+_, _-_, _*_, _/_, _%_, min}
 use lib.Dec.{leb, ltb, eqb}
 use lib.ListN.{length, getD, take, drop, replicate}
-use Rattle.basics.specs.Bits.{bits, byteBits, number, bytes}
+use Rattle.basics.specs.Bits.{bits, byteBits, bytes}
 use Rattle.basics.specs.Lists.{each, placeIn, AtMost}
 use Rattle.tables.specs.Tables.{dataCount, countWidth}
 

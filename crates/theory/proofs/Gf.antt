@@ -1,6 +1,6 @@
 -- The bytes of `field` as a field of the theory, and the locators of a block's places, which differ. Assumes nothing.
-use mathlib.Core.Path.{_≡_, refl, sym, ap, _∙_}
-use Prim.Native.Nat.{ℕ, suc, _-_, _≤_, _<_}
+use mathlib.Core.Path.{_≡_, sym, ap, _∙_}
+use Prim.Native.Nat.{ℕ, suc, _-_, _≤_}
 use native.Mathlib.Omega.{arith}
 use Rattle.field.specs.Field.{powN}
 use Rattle.field.proofs.Algebra.{mul-zero}

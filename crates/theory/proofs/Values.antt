@@ -1,8 +1,8 @@
 -- The values of a word whose places are known: a polynomial that has their locators for roots, its quotients, and the sums that it makes of the word's.
 -- A polynomial is evaluated from its highest coefficient down, and with it its quotient at the same point. Assumes nothing.
-use mathlib.Core.Path.{_≡_, refl, sym, ap, ap₂, _∙_}
-use mathlib.Core.Logic.{_≢_, _⊎_, inl, inr, ⊎-elim, by-cases}
-use mathlib.Core.List.{List, [], _∷_, List·Memᴰ, List·Memᴰ·head, List·Memᴰ·tail}
+use mathlib.Core.Path.{_≡_, refl, sym, ap, _∙_}
+use mathlib.Core.Logic.{_≢_, _⊎_, ⊎-elim, by-cases}
+use mathlib.Core.List.{List, [], _∷_}
 use Prim.Native.Nat.{ℕ, zero, suc, _+_, _≤_, _<_}
 use native.Mathlib.Nat.{add-zero, add-suc, zero-add, suc-add, add-comm, eq-or-lt-of-le, le-of-suc-le-suc}
 use native.Mathlib.Decide.{ℕ-discrete}
@@ -11,12 +11,12 @@ use native.Mathlib.Omega.{arith}
 use lib.ListN.{length}
 use Rattle.theory.proofs.Field.{Field}
 use Rattle.theory.proofs.Sum.{sum, pow}
-use Rattle.theory.proofs.Places.{Apart, Agree, Within, psum}
+use Rattle.theory.proofs.Places.{Apart, psum}
 use Rattle.theory.proofs.Run.{act, eval, Roots, Below, Monic, one, shift, mix}
-use Rattle.theory.proofs.Algebra.{ring, ⊕-zero, ⊕-self, zero-⊕, zero-⊗, ⊗-zero, ⊗-one, ⊗-assoc, ⊗-comm, ⊕-equal, zero-product, sum-cong, sum-zero, sum-⊗, ⊗-sum, sum-swap, sum-single}
-use Rattle.theory.proofs.Massey.{shift-below, shift-at, one-below, mix-below, mix-lead, act-window}
+use Rattle.theory.proofs.Algebra.{ring, zero-⊕, zero-⊗, ⊗-zero, ⊗-one, ⊗-assoc, ⊕-equal, zero-product, sum-cong, sum-zero, ⊗-sum, sum-swap, sum-single}
+use Rattle.theory.proofs.Massey.{shift-below, one-below, mix-below, mix-lead, act-window}
 use Rattle.theory.proofs.Locator.{act-psum}
-use Rattle.theory.proofs.Root.{eval-front, eval-⊕, quotient, quotient-below, quotient-monic, quotient-step, divide, root-bound}
+use Rattle.theory.proofs.Root.{eval-front, eval-⊕, quotient, quotient-below, quotient-monic, divide, root-bound}
 
 module _ (K : Field) where
   open Field K using (F, _⊕_, _⊗_, 𝟘, 𝟙, inv)

@@ -4,7 +4,7 @@ use mathlib.Core.Path.{_≡_, sym, ap, _∙_}
 use Prim.Native.Nat.{ℕ, _+_, _*_, _^_, _<_}
 use native.Mathlib.Nat.{mod-lt}
 use lib.Dec.{T, eqb, eqb→eq, ltb, ltb→lt, lit<}
-use Rattle.basics.proofs.Test.{all, at, grid, same, same₁}
+use Rattle.basics.proofs.Test.{all, at, grid, same₁}
 use Rattle.words.specs.Words.{reduced, formatBits, formatWord, versionWord, levelOf, maskOf}
 
 pub format-bits-lt : (level mask : ℕ) → level < 4 → mask < 8 → formatBits level mask < 32

@@ -1,17 +1,17 @@
 -- The answer of `write`, refused or drawn, from what its steps gave.
 -- Assumes nothing.
-use mathlib.Core.Path.{_≡_, refl, sym, ap, _∙_}
-use mathlib.Core.Bool.{Bool, true, false, cond}
+use mathlib.Core.Path.{_≡_, refl, _∙_}
+use mathlib.Core.Bool.{Bool, true, false}
 use mathlib.Core.Logic.{_≢_, inl, inr}
-use mathlib.Core.List.{List, _++_}
+use mathlib.Core.List.{List}
 use Prim.Native.Nat.{ℕ, zero, suc, _*_, _≤_, _<_}
 use native.Mathlib.Omega.{arith}
-use borrow.Author.Tests.{leb-true, eqb-true}
-use lib.Dec.{leb, eqb}
-use lib.ListN.{length, drop}
+use borrow.Author.Tests.{eqb-true}
+use lib.Dec.{eqb}
+use lib.ListN.{length}
 use Rattle.basics.specs.Lists.{AtMost}
 use Rattle.tables.specs.Tables.{side, Lawful}
-use Rattle.stream.specs.Stream.{LawfulMessage, lawfulList, counts, lawfulCharacters, fits}
+use Rattle.stream.specs.Stream.{LawfulMessage, lawfulList, counts, lawfulCharacters}
 use Rattle.modules.proofs.Geometry.{symbol-length}
 use Rattle.writer.specs.declared.Drawing.the-variants as answers
 use Rattle.writer.specs.Writer.{Request, Drawn, Refused, inRange, unless, taken, refusal, chosen, codewords, drawAt, answered, draw}

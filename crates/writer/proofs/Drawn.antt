@@ -1,15 +1,13 @@
 -- What is drawn: the version taken, the mask forced or chosen by the least score, and the symbol of the message's codewords.
 -- Assumes nothing.
 use mathlib.Core.Path.{_≡_, refl, sym, ap, _∙_}
-use mathlib.Core.Bool.{Bool, true, false, cond}
 use mathlib.Core.Logic.{_≢_, _⊎_, inl, inr, by-cases}
 use mathlib.Core.List.{List, map}
-use Prim.Native.Nat.{ℕ, zero, suc, _+_, _*_, _≤_, _<_}
+use Prim.Native.Nat.{ℕ, zero, suc, _≤_, _<_}
 use native.Mathlib.Decide.{ℕ-discrete}
 use native.Mathlib.Omega.{arith}
-use borrow.Author.Tests.{eq-eqb, ne-eqb}
-use lib.Dec.{eqb}
-use lib.ListN.{length, getD}
+use borrow.Author.Tests.{ne-eqb}
+use lib.ListN.{getD}
 use Rattle.basics.specs.Lists.{upTo}
 use Rattle.basics.proofs.Lists.{length-map-upTo, getD-map-upTo}
 use Rattle.tables.specs.Tables.{side, lastVersion, Lawful}
@@ -18,8 +16,8 @@ use Rattle.modules.proofs.Geometry.{symbol-length, symbol-le}
 use Rattle.penalty.specs.Penalty.{score, leastPlace}
 use Rattle.penalty.specs.Promise.{LeastRule}
 use Rattle.penalty.proofs.Least.{least}
-use Rattle.writer.specs.Writer.{Request, Drawing, Drawn, Refused, taken, refusal, codewords, chosen, drawAt, answered, draw}
-use Rattle.writer.specs.Promise.{Next, BadNumber, BadList, BadCounts, BadCharacter, NoFit, Short, DrawnRule, DrawnRules, DrawnModules}
+use Rattle.writer.specs.Writer.{Request, Drawing, Drawn, taken, refusal, codewords, chosen, drawAt, answered, draw}
+use Rattle.writer.specs.Promise.{BadNumber, BadList, BadCounts, BadCharacter, NoFit, Short, DrawnRules, DrawnModules}
 use Rattle.writer.proofs.Fit.{fit-rule}
 use Rattle.writer.proofs.Refusals.{refusals}
 

@@ -1,19 +1,18 @@
 -- The version that is taken: the named one where it fits, with version 0 the smallest that fits, and 0 where there is none.
 -- Assumes nothing.
-use mathlib.Core.Path.{_≡_, refl, sym, ap, _∙_}
+use mathlib.Core.Path.{_≡_, refl, sym, _∙_}
 use mathlib.Core.Bool.{Bool, true, false, cond, true≢false}
 use mathlib.Core.Logic.{_≢_, by-cases}
-use mathlib.Core.List.{List, [], _∷_}
+use mathlib.Core.List.{List, _∷_}
 use Prim.Native.Nat.{ℕ, zero, suc, _+_, _≤_, _<_}
 use native.Mathlib.Decide.{ℕ-discrete}
 use native.Mathlib.Omega.{arith}
 use borrow.Author.Tests.{ne-eqb}
-use lib.Dec.{eqb}
 use Rattle.basics.specs.Lists.{from, keep}
 use Rattle.tables.specs.Tables.{lastVersion}
 use Rattle.stream.specs.Stream.{fits}
 use Rattle.writer.specs.Writer.{taken, frontOr0}
-use Rattle.writer.specs.Promise.{NoFit, FitRule, FitRules}
+use Rattle.writer.specs.Promise.{FitRule, FitRules}
 
 -- the first of a, .., a + n - 1 that passes a test
 module _ (test : ℕ → Bool) where

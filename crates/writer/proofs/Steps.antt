@@ -1,10 +1,10 @@
 -- What the steps of a drawing hand on: the finished matrix in front of the output, and the place of the least score, mask by mask.
 -- Assumes nothing.
-use mathlib.Core.Path.{_≡_, refl, sym, ap, ap₂, _∙_}
-use mathlib.Core.Bool.{Bool, true, false, cond}
+use mathlib.Core.Path.{_≡_, refl, ap, _∙_}
+use mathlib.Core.Bool.{cond}
 use mathlib.Core.Logic.{by-cases}
-use mathlib.Core.List.{List, [], _∷_, _++_, map}
-use Prim.Native.Nat.{ℕ, zero, suc, _+_, _-_, _*_, _≤_, _<_}
+use mathlib.Core.List.{List, _++_, map}
+use Prim.Native.Nat.{ℕ, suc, _+_, _-_, _*_, _≤_, _<_}
 use native.Mathlib.Nat.{mul-le-mul}
 use native.Mathlib.Numerals.{add-one}
 use native.Mathlib.Omega.{arith}
@@ -13,10 +13,9 @@ use borrow.Author.Tests.{lt-ltb, le-ltb, eq-eqb, ne-eqb}
 use lib.Dec.{ltb}
 use lib.ListN.{length, take, drop, length-append}
 use lib.Seq.{take-at, drop-at}
-use Rattle.basics.specs.Lists.{AtMost, upTo, from}
+use Rattle.basics.specs.Lists.{upTo, from}
 use Rattle.basics.proofs.Lists.{length-map-upTo}
 use Rattle.tables.specs.Tables.{side, Lawful}
-use Rattle.modules.specs.Modules.{symbol}
 use Rattle.modules.specs.Kinds.{laid, finished}
 use Rattle.modules.proofs.Geometry.{symbol-le}
 use Rattle.modules.proofs.Tints.{laid-length, laid-le, finished-laid}

@@ -1,10 +1,10 @@
 -- `blocks::copy` meets its contract. The invariant: the first k entries are copied.
 -- Assumes nothing.
-use mathlib.Core.Path.{_≡_, refl, sym, ap, _∙_}
-use Prim.Native.Nat.{_+_, _-_, _≤_}
+use mathlib.Core.Path.{_≡_, refl, sym, _∙_}
+use Prim.Native.Nat.{_-_, _≤_}
 use native.Mathlib.Numerals.{add-one}
 use native.Mathlib.Omega.{arith}
-use lib.ListN.{length, take, getD, set, length-set}
+use lib.ListN.{length, take, length-set}
 use lib.Seq.{take-suc, take-suc-set, take-all}
 use Rattle.blocks.proofs.copy.Statement.{statement}
 use Rattle.blocks.proofs.copy.Tie as tie

@@ -1,14 +1,13 @@
 -- `blocks::deal` meets its contract. The invariant: the first k codewords are at their places.
 -- Assumes nothing.
-use mathlib.Core.Path.{_≡_, refl, sym, ap, _∙_}
+use mathlib.Core.Path.{_≡_, refl}
 use mathlib.Core.Bool.{true}
-use Prim.Native.Nat.{ℕ, _+_, _-_, _≤_}
+use Prim.Native.Nat.{_+_, _-_, _≤_}
 use native.Mathlib.Nat.{le-antisymm}
-use native.Mathlib.Numerals.{add-one}
 use native.Mathlib.Omega.{arith}
-use lib.ListN.{length, getD, set, length-set}
+use lib.ListN.{length, getD, length-set}
 use Rattle.basics.specs.Walk.{walked}
-use Rattle.blocks.specs.Blocks.{dealt, sentPlace}
+use Rattle.blocks.specs.Blocks.{sentPlace}
 use Rattle.blocks.proofs.Places.{Turn, turn-of}
 use Rattle.blocks.proofs.Walks.{deal-more, deal-all}
 use Rattle.blocks.proofs.deal.Statement.{statement}

@@ -1,10 +1,9 @@
 -- `blocks::gather_block` meets its contract. The invariant: the first p codewords of the block are gathered.
 -- Assumes nothing.
-use mathlib.Core.Path.{_≡_, refl, sym, ap, _∙_}
-use Prim.Native.Nat.{ℕ, _+_, _-_, _≤_}
-use native.Mathlib.Nat.{le-antisymm}
+use mathlib.Core.Path.{_≡_, refl, ap, _∙_}
+use Prim.Native.Nat.{ℕ, _-_, _≤_}
 use native.Mathlib.Omega.{arith}
-use lib.ListN.{length, getD, take, set, length-set}
+use lib.ListN.{length, getD, take, length-set}
 use Rattle.basics.specs.Build.{build}
 use Rattle.basics.proofs.Build.{build-put}
 use Rattle.tables.specs.Tables.{blockLength}

@@ -1,6 +1,6 @@
 -- `blocks::place` meets its contract: one case of the closed form at each return.
 -- Assumes nothing.
-use mathlib.Core.Path.{_≡_, sym, ap, _∙_}
+use mathlib.Core.Path.{sym, ap, _∙_}
 use Prim.Native.Nat.{ℕ, _+_}
 use native.Mathlib.Omega.{arith}
 use Rattle.blocks.proofs.Places.{in-short, in-last, short-check, long-check}

@@ -6,10 +6,10 @@ use native.Mathlib.Nat.{le-antisymm, zero-mul, suc-mul, mul-le-mul-right}
 use native.Mathlib.Numerals.{add-one}
 use native.Mathlib.Omega.{arith}
 use lib.Dec.{T, leb, leb→le}
-use lib.ListN.{length, take, drop}
+use lib.ListN.{length}
 use Rattle.basics.specs.Sums.{sum}
-use Rattle.basics.proofs.Parts.{the-part, length-part, length-lent}
-use Rattle.tables.specs.Tables.{checkRows, blockRows, checkCount, blockCount, blockData, blockLength, blockStart, Lawful}
+use Rattle.basics.proofs.Parts.{length-part, length-lent}
+use Rattle.tables.specs.Tables.{checkRows, blockRows, checkCount, blockCount, blockStart, Lawful}
 use Rattle.tables.proofs.Rules.{everywhere, rule, block-end, block-next}
 use Rattle.blocks.proofs.Dealing.{checks-long}
 use Rattle.blocks.proofs.Sent.{Sent, sent-none, sent-more, sent-all}

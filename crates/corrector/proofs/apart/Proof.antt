@@ -1,5 +1,4 @@
 -- `corrector::apart` meets its contract. Assumes nothing.
-use borrow.Author.Needs.{needs}
 use borrow.Author.Tests.{eq-eqb, ne-eqb}
 use Rattle.corrector.proofs.apart.Statement.{statement}
 use Rattle.corrector.proofs.apart.Tie as tie

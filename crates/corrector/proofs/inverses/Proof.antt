@@ -1,12 +1,12 @@
 -- `corrector::inverses` meets its contract. Assumes nothing.
 use borrow.Author.Needs.{needs}
-use Prim.Native.Nat.{_+_, _-_, _≤_}
-use mathlib.Core.Path.{_≡_, ap, _∙_}
+use Prim.Native.Nat.{_-_}
+use mathlib.Core.Path.{_≡_}
 use native.Mathlib.Omega.{arith}
 use mir.Val.{Fits}
 use mir.Syntax.{w8}
 use lib.ListN.{getD}
-use Rattle.corrector.specs.Lanes.{filled, timesPlus}
+use Rattle.corrector.specs.Lanes.{filled}
 use Rattle.corrector.proofs.Rows.{Row}
 use Rattle.corrector.proofs.Turns.{Inverting, inverting-start, inverting-turn, inverting-all, ones-row}
 use Rattle.corrector.proofs.inverses.Statement.{statement}

@@ -5,7 +5,6 @@ use mir.Val.{Fits}
 use mir.Syntax.{w8}
 use lib.ListN.{getD}
 use Rattle.corrector.specs.Lanes.{filled}
-use Rattle.corrector.proofs.Rows.{Row}
 use Rattle.corrector.proofs.Turns.{magnitudes-made, product-few, evaluator-few}
 use borrow.Author.Needs.{needs}
 use Rattle.corrector.proofs.magnitudes.Statement.{statement}

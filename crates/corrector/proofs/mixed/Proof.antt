@@ -1,5 +1,5 @@
 -- `corrector::mixed` meets its contract. Assumes nothing.
-use mathlib.Core.Path.{_≡_, ap₂, _∙_}
+use mathlib.Core.Path.{ap₂, _∙_}
 use Rattle.corrector.specs.Lanes.{filled, timesPlus}
 use borrow.Author.Needs.{needs}
 use Rattle.corrector.proofs.mixed.Statement.{statement}

@@ -1,5 +1,5 @@
 -- `corrector::noted` meets its contract. Assumes nothing.
-use mathlib.Core.Path.{_≡_, refl, _∙_}
+use mathlib.Core.Path.{_≡_, _∙_}
 use mathlib.Core.Logic.{⊎-elim}
 use mathlib.Core.Bool.{true, not, _||_}
 use native.Mathlib.Omega.{arith}

@@ -1,6 +1,6 @@
 -- `corrector::raise` meets its contract. Assumes nothing.
 use borrow.Author.Needs.{needs}
-use Prim.Native.Nat.{_+_, _-_, _≤_}
+use Prim.Native.Nat.{_-_, _≤_}
 use native.Mathlib.Omega.{arith}
 use Rattle.corrector.proofs.Late.{Raising, raised-start, raised-turn, raised-all}
 use Rattle.corrector.proofs.raise.Statement.{statement}

@@ -5,7 +5,6 @@ use mir.Val.{Fits}
 use mir.Syntax.{w8}
 use lib.ListN.{getD}
 use Rattle.field.specs.Field.{mulN}
-use Rattle.corrector.proofs.Rows.{Row}
 use Rattle.corrector.proofs.Running.{Seen, running-keep, running-mend, running-grow}
 use borrow.Author.Needs.{needs}
 use Rattle.corrector.proofs.step.Statement.{statement}

@@ -1,13 +1,13 @@
 -- `corrector::suspected` meets its contract. Assumes nothing.
 use borrow.Author.Needs.{needs}
 use Prim.Native.Nat.{ℕ, _+_, _-_, _≤_, _<_}
-use mathlib.Core.Path.{_≡_, refl, sym, ap, subst, _∙_}
+use mathlib.Core.Path.{_≡_, sym, ap, _∙_}
 use native.Mathlib.Omega.{arith}
 use mir.Val.{Fits}
 use mir.Syntax.{w8}
 use lib.ListN.{length, getD}
 use Rattle.field.specs.Field.{powN}
-use Rattle.corrector.specs.Lanes.{filled, timesPlus}
+use Rattle.corrector.specs.Lanes.{filled}
 use Rattle.corrector.specs.Places.{Found}
 use Rattle.corrector.proofs.Rows.{Row}
 use Rattle.corrector.proofs.Listing.{Located, located-start, located-turn, found-start, powers, powers-row}

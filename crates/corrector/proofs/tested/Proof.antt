@@ -2,7 +2,6 @@
 use Prim.Native.Nat.{_≤_}
 use native.Mathlib.Omega.{arith}
 use denote.Ref.{now}
-use lib.ListN.{length}
 use Rattle.corrector.proofs.Testing.{zeros-codeword, no-codeword, differing-most, unreadable-most}
 use borrow.Author.Needs.{needs}
 use Rattle.corrector.proofs.tested.Statement.{statement}

@@ -1,10 +1,9 @@
 -- `corrector::total` meets its contract. Assumes nothing.
 use borrow.Author.Needs.{needs}
-use Prim.Native.Nat.{_+_, _-_, _≤_, _<_}
-use mathlib.Core.Path.{_≡_, refl, ap, _∙_}
+use Prim.Native.Nat.{_-_, _≤_}
+use mathlib.Core.Path.{_≡_, refl}
 use native.Mathlib.Omega.{arith}
-use native.Mathlib.Numerals.{add-one}
-use Rattle.field.proofs.Byte.{elt, add, elt-add}
+use Rattle.field.proofs.Byte.{elt}
 use Rattle.theory.proofs.Sum.{sum}
 use Rattle.theory.proofs.Gf.{gf256}
 use Rattle.corrector.specs.Lanes.{poly}

@@ -1,9 +1,9 @@
 -- `corrector::window` meets its contract. Assumes nothing.
-use mathlib.Core.Path.{_≡_, ap, _∙_}
+use mathlib.Core.Path.{ap, _∙_}
 use native.Mathlib.Omega.{arith}
 use mir.Val.{Fits}
 use mir.Syntax.{w8}
-use lib.ListN.{length, getD}
+use lib.ListN.{getD}
 use Rattle.theory.proofs.Sum.{sum}
 use Rattle.theory.proofs.Gf.{gf256}
 use Rattle.corrector.specs.Lanes.{filled, timesPlus, poly}

@@ -1,5 +1,5 @@
 -- `corrector::without` meets its contract. Assumes nothing.
-use mathlib.Core.Path.{_≡_, ap, sym, _∙_}
+use mathlib.Core.Path.{ap, _∙_}
 use borrow.Author.Tests.{eq-eqb, ne-eqb}
 use Rattle.corrector.specs.Lanes.{filled, timesPlus}
 use borrow.Author.Needs.{needs}

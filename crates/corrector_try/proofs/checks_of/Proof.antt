@@ -1,5 +1,5 @@
 -- `corrector_try::checks_of` is safe. Assumes nothing.
-use mathlib.Core.Path.{_≡_, refl, sym}
+use mathlib.Core.Path.{sym}
 use native.Mathlib.Omega.{arith}
 use Prim.Native.Nat.{ℕ}
 use lib.ListN.{replicate}

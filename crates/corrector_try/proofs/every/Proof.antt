@@ -1,7 +1,6 @@
 -- `corrector_try::every` is safe and ends. Assumes nothing.
 use borrow.Author.Needs.{needs}
 use Prim.Native.Nat.{_-_, _≤_}
-use native.Mathlib.Omega.{arith}
 use Rattle.corrector_try.proofs.every.Statement.{statement}
 use Rattle.corrector_try.proofs.every.Tie as tie
 use Rattle.corrector_try.proofs.every.Reads as reads

@@ -1,14 +1,14 @@
 -- `field::pow` meets its contract: the power i is the product of the powers i/16·16 and i%16, which stand in the tables.
 -- Assumes nothing.
-use mathlib.Core.Path.{_≡_, ap, _∙_}
+use mathlib.Core.Path.{ap, _∙_}
 use mathlib.Core.List.{List, [], _∷_}
-use Prim.Native.Nat.{ℕ, _+_, _*_, _/_, _%_, _<_}
-use native.Mathlib.Nat.{div-add-mod', mod-lt, div-lt-iff-lt-mul}
+use Prim.Native.Nat.{ℕ, _*_, _/_, _%_, _<_}
+use native.Mathlib.Nat.{div-add-mod', mod-lt}
 use native.Mathlib.Omega.{arith}
 use lib.Dec.{T, lit<}
 use lib.ListN.{getD}
 use Rattle.basics.proofs.Test.{same, same₁}
-use Rattle.field.specs.Field.{mulN, powN}
+use Rattle.field.specs.Field.{powN}
 use Rattle.field.proofs.Laws.{pow-add}
 use borrow.Author.Needs.{needs}
 use Rattle.field.proofs.pow.Statement.{statement}

@@ -1,10 +1,9 @@
 -- `modules::square` meets its contract: the invariant: t stores are made.
 -- Assumes nothing.
-use mathlib.Core.Path.{_≡_, sym}
+use mathlib.Core.Path.{_≡_}
 use Prim.Native.Nat.{_-_, _≤_}
 use native.Mathlib.Nat.{mod-lt, le-antisymm}
 use native.Mathlib.Omega.{arith}
-use lib.ListN.{length}
 use Rattle.basics.specs.Bits.{bitOf}
 use Rattle.modules.specs.Kinds.{stamped, squarePlace}
 use Rattle.modules.proofs.Stamps.{stamped-none, stamped-more, made-length, row-lt, small-square}

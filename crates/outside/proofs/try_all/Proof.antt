@@ -1,7 +1,6 @@
 -- `outside::try_all` is safe: each turn looks at one symbol of the file.
 -- Assumes nothing.
 use Prim.Native.Nat.{_-_, _≤_}
-use native.Mathlib.Omega.{arith}
 use lib.ListN.{length}
 use borrow.Author.Needs.{needs}
 use Rattle.outside.proofs.try_all.Statement.{statement}

@@ -1,7 +1,7 @@
 -- `parse::fill` meets its contract. The invariant: what stands in the buffers, followed by what the rest of the stream holds, is the message.
 -- Assumes nothing.
 use mathlib.Core.Path.{_≡_, sym, subst, _∙_}
-use mathlib.Core.Bool.{true, false}
+use mathlib.Core.Bool.{false}
 use Prim.Native.Nat.{_-_, _*_}
 use native.Mathlib.Omega.{arith}
 use lib.ListN.{length, drop}

@@ -1,13 +1,12 @@
 -- `parse::next_segment` meets its contract: after the head the segment stands whole, after the body its groups are in range.
 -- Assumes nothing.
-use mathlib.Core.Path.{_≡_, sym, subst, _∙_}
-use Prim.Native.Nat.{ℕ, _+_, _≤_}
+use mathlib.Core.Path.{_≡_, subst}
+use Prim.Native.Nat.{_+_, _≤_}
 use native.Mathlib.Omega.{arith}
 use lib.ListN.{length-set}
 use borrow.Author.Needs.{needs}
 use Rattle.parse.specs.declared.Head.{Head}
-use Rattle.parse.specs.declared.Heading.{Heading}
-use Rattle.parse.specs.declared.Heading.the-variants.{Found, Refused}
+use Rattle.parse.specs.declared.Heading.the-variants.{Found}
 use Rattle.parse.specs.declared.Reading.{Reading}
 use Rattle.parse.specs.declared.Reading.the-variants.{Past, OutOfRange}
 use Rattle.parse.specs.Steps.{HeadReads, BodyReads, StepAsks}

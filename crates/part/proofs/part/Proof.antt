@@ -1,11 +1,10 @@
 -- `part::part` meets its contract: a place ends within the payload.
 -- Assumes nothing.
-use Prim.Native.Nat.{ℕ, _+_, _-_, _≤_}
+use Prim.Native.Nat.{_+_, _-_, _≤_}
 use native.Mathlib.Nat.{add-sub-cancel-left}
 use lib.ListN.{length}
-use mathlib.Core.Path.{_≡_}
 use native.Mathlib.Omega.{arith}
-use Rattle.part.specs.Part.{partOf, spanOf}
+use Rattle.part.specs.Part.{partOf}
 use Rattle.part.proofs.Laws.{within}
 use borrow.Author.Needs.{needs}
 use Rattle.part.proofs.part.Statement.{statement}

@@ -1,15 +1,13 @@
 -- `part::span_of` meets its contract. The invariant: `start` is the sum of the counts passed, and is within the payload. Each answer is one law.
 -- Assumes nothing.
 use mathlib.Core.Path.{_≡_, refl, sym, ap, _∙_}
-use mathlib.Core.List.{List}
-use Prim.Native.Nat.{ℕ, suc, _+_, _-_, _*_, _/_, _%_, _≤_, _<_}
+use Prim.Native.Nat.{suc, _-_, _/_, _%_, _≤_, _<_}
 use native.Mathlib.Omega.{arith}
 use native.Mathlib.Nat.{le-antisymm}
 use native.Mathlib.Numerals.{add-one}
-use borrow.Author.Needs.{needs}
-use borrow.Author.Tests.{eq-eqb, ne-eqb, le-ltb, lt-ltb, lt-leb, le-leb}
-use lib.ListN.{length, getD}
-use Rattle.part.specs.Part.{startOf, spanOf, nowhere}
+use borrow.Author.Tests.{eq-eqb, ne-eqb, le-ltb}
+use lib.ListN.{length}
+use Rattle.part.specs.Part.{startOf, spanOf}
 use Rattle.part.proofs.Laws.{start-mono, span-past, span-here}
 use Rattle.part.proofs.span_of.Statement.{statement}
 use Rattle.part.proofs.span_of.Tie as tie

@@ -1,6 +1,6 @@
 -- `penalty::finder_like` meets its contract.
 -- Assumes nothing.
-use mathlib.Core.Path.{_≡_, refl, sym, _∙_}
+use mathlib.Core.Path.{sym, _∙_}
 use Rattle.penalty.specs.Penalty.{finderLike, patterns}
 use borrow.Author.Needs.{needs}
 use Rattle.penalty.proofs.finder_like.Statement.{statement}

@@ -1,6 +1,5 @@
 -- `penalty::run_end` meets its contract.
 -- Assumes nothing.
-use mathlib.Core.Path.{_≡_, refl, sym, ap, _∙_}
 use borrow.Author.Tests.{eq-eqb, ne-eqb}
 use Rattle.penalty.specs.Lines.{runEnd}
 use borrow.Author.Needs.{needs}

@@ -1,7 +1,7 @@
 -- `penalty::share_score` meets its contract.
 -- Assumes nothing.
-use mathlib.Core.Path.{_≡_, refl, sym, ap, _∙_}
-use Prim.Native.Nat.{ℕ, suc, _+_, _*_, _-_, _/_, _^_, _<_, _≤_}
+use mathlib.Core.Path.{_≡_}
+use Prim.Native.Nat.{ℕ, _*_, _-_, _/_, _^_, _<_, _≤_}
 use native.Mathlib.Nat.{mul-le-mul, mul-pos, div-le-self, mul-comm}
 use native.Mathlib.Omega.{arith}
 use Rattle.basics.specs.Sums.{apart}

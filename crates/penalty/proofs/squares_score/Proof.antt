@@ -1,6 +1,6 @@
 -- `penalty::squares_score` meets its contract. The invariant: the score is that of the rows passed.
 -- Assumes nothing.
-use mathlib.Core.Path.{_≡_, refl, sym, ap, ap₂, _∙_}
+use mathlib.Core.Path.{_≡_, refl, sym, ap₂, _∙_}
 use Prim.Native.Nat.{ℕ, suc, _+_, _*_, _-_, _<_, _≤_}
 use native.Mathlib.Nat.{le-antisymm, mul-le-mul-right, mul-le-mul, suc-mul}
 use native.Mathlib.Numerals.{add-one}

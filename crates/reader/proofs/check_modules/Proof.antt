@@ -1,6 +1,5 @@
 -- `reader::check_modules` meets its contract. The invariant: no module passed is larger than `most`, which is above 2 only where a module is.
 -- Assumes nothing.
-use mathlib.Core.Path.{_≡_, sym}
 use mathlib.Core.Logic.{⊎-elim}
 use Prim.Native.Nat.{ℕ, _-_, _≤_, _<_}
 use native.Mathlib.Nat.{not-suc-le-zero, le-trans}

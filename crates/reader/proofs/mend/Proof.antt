@@ -1,6 +1,6 @@
 -- `reader::mend` meets its contract: the room that it has is enough for every version.
 -- Assumes nothing.
-use mathlib.Core.Path.{_≡_, sym, subst, _∙_}
+use mathlib.Core.Path.{sym, subst, _∙_}
 use Prim.Native.Nat.{ℕ, _≤_}
 use lib.Seq.{length-take-le}
 use Rattle.tables.proofs.Rules.{total-most}

@@ -1,14 +1,14 @@
 -- `reader::mend_blocks` meets its contract: `Mending` says what the loop has done, and a turn is one law.
 -- Assumes nothing.
-use mathlib.Core.Path.{_≡_, refl, sym, ap, subst, subst₂, _∙_}
-use Prim.Native.Nat.{ℕ, _+_, _-_, _*_, _≤_, _<_}
+use mathlib.Core.Path.{_≡_, sym, ap, subst, subst₂, _∙_}
+use Prim.Native.Nat.{ℕ, _+_, _-_, _≤_, _<_}
 use native.Mathlib.Nat.{add-sub-cancel-left, le-antisymm}
 use native.Mathlib.Omega.{arith}
 use borrow.Author.Needs.{needs}
-use lib.ListN.{length, take, drop}
-use Rattle.basics.proofs.Parts.{the-part, length-part}
+use lib.ListN.{length}
+use Rattle.basics.proofs.Parts.{length-part}
 use Rattle.basics.specs.Sums.{sum}
-use Rattle.tables.specs.Tables.{Lawful, total, room as roomOf, blockCount, checkCount, blockLength}
+use Rattle.tables.specs.Tables.{Lawful, total, room as roomOf, blockCount, checkCount}
 use Rattle.tables.proofs.Rules.{blocks-most, room-most, checks-most, block-length-most, total-most}
 use Rattle.blocks.proofs.Dealing.{offset-end}
 use Rattle.reader.specs.Steps.{wrongIn, lostIn}

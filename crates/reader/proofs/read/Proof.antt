@@ -1,6 +1,6 @@
 -- `reader::read` meets its contract: each way out is one law of `Telling`, from what the steps on the way ensure.
 -- Assumes nothing.
-use mathlib.Core.Path.{_≡_, sym, subst, _∙_}
+use mathlib.Core.Path.{sym, subst, _∙_}
 use Prim.Native.Nat.{ℕ, _≤_}
 use lib.Seq.{length-take-le}
 use Rattle.tables.specs.Version.{Fixes}

@@ -1,15 +1,14 @@
 -- `scan::codewords` meets its contract: what is gathered is what the definition receives, and `pack` cuts it into eights.
 -- Assumes nothing.
-use mathlib.Core.Path.{_≡_, refl, sym, subst⁻¹, ap, ap₂, _∙_}
+use mathlib.Core.Path.{sym, subst⁻¹, ap, ap₂, _∙_}
 use mathlib.Core.List.{List, map}
-use Prim.Native.Nat.{ℕ, _+_, _*_, _≤_, _<_}
+use Prim.Native.Nat.{ℕ}
 use native.Mathlib.Omega.{arith}
-use lib.ListN.{length, take, getD}
+use lib.ListN.{length}
 use lib.Seq.{length-take-le}
 use Rattle.basics.specs.Lists.{upTo, AtMost}
-use Rattle.tables.specs.Tables.{side, total, surplus}
 use Rattle.tables.proofs.Rules.{total-most}
-use Rattle.scan.specs.Received.{received, codeword, flag, codewords, flags}
+use Rattle.scan.specs.Received.{codeword, flag, codewords, flags}
 use Rattle.scan.proofs.Reading.{side-most}
 use Rattle.scan.proofs.Whole.{received-length, received-le}
 use borrow.Author.Needs.{needs}

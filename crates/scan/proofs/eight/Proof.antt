@@ -1,7 +1,6 @@
 -- `scan::eight` meets its contract. The loop's invariant: the number and the flag are those of the modules passed.
 -- Assumes nothing.
 use Rattle.basics.specs.Bits.{numberAfter}
-use Rattle.scan.specs.Scan.{EightRead}
 use lib.ListN.{length-take}
 use native.Mathlib.Nat.{pow-suc}
 use native.Mathlib.Numerals.{add-one}
@@ -12,10 +11,10 @@ use lib.Seq.{getD-drop}
 use borrow.Author.Tests.{eq-eqb, ne-eqb}
 use Rattle.basics.proofs.Bits.{number-lt}
 use Rattle.scan.proofs.Reading.{number-more, flag-more, all-read, at-most-part}
-use mathlib.Core.Path.{_≡_, refl, sym, ap, _∙_}
+use mathlib.Core.Path.{_≡_, refl, sym, _∙_}
 use mathlib.Core.Bool.{Bool, true, false, cond}
-use mathlib.Core.List.{List, [], _∷_, _++_}
-use Prim.Native.Nat.{ℕ, zero, suc, _+_, _-_, _*_, _^_, _≤_, _<_}
+use mathlib.Core.List.{List}
+use Prim.Native.Nat.{ℕ, _+_, _-_, _*_, _^_, _≤_, _<_}
 use native.Mathlib.Omega.{arith}
 use lib.Dec.{eqb}
 use lib.ListN.{length, getD, take, drop}

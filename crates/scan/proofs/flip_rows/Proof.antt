@@ -2,9 +2,9 @@
 -- Assumes nothing.
 use mathlib.Core.Path.{_≡_, refl, sym, ap, _∙_}
 use mathlib.Core.List.{List}
-use Prim.Native.Nat.{ℕ, _+_, _-_, _≤_, _<_}
+use Prim.Native.Nat.{ℕ, _-_, _≤_, _<_}
 use native.Mathlib.Omega.{arith}
-use lib.ListN.{length, getD, take, length-set, length-replicate}
+use lib.ListN.{length, getD, take, length-set}
 use lib.Seq.{getD-take}
 use borrow.Author.Needs.{needs}
 use Rattle.basics.specs.Build.{build}

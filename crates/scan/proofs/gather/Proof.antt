@@ -1,16 +1,12 @@
 -- `scan::gather` meets its contract: the walk, with the kinds that tell the data modules and the rows that tell the mask.
 -- Assumes nothing.
-use mathlib.Core.Path.{_≡_, subst⁻¹, ap, _∙_}
+use mathlib.Core.Path.{subst⁻¹, _∙_}
 use mathlib.Core.List.{List, map}
-use Prim.Native.Nat.{ℕ, _-_, _*_, _≤_, _<_}
+use Prim.Native.Nat.{ℕ, _-_, _*_, _≤_}
 use native.Mathlib.Nat.{mul-le-mul-left, le-trans}
 use native.Mathlib.Omega.{arith}
-use lib.ListN.{length, take}
-use Rattle.basics.specs.Lists.{upTo}
-use Rattle.basics.proofs.Lists.{length-map-upTo}
-use Rattle.tables.specs.Tables.{side, mostSide}
-use Rattle.modules.specs.Kinds.{rowFlips}
-use Rattle.scan.specs.Scan.{DataMap, Ready, Walked, passed}
+use Rattle.tables.specs.Tables.{side}
+use Rattle.scan.specs.Scan.{DataMap}
 use Rattle.scan.proofs.Maps.{kinds-map}
 use Rattle.scan.proofs.Reading.{side-most}
 use Rattle.scan.proofs.Whole.{received-passed}

@@ -2,15 +2,15 @@
 -- Assumes nothing.
 use mathlib.Core.Path.{_≡_, refl, sym, ap, _∙_}
 use mathlib.Core.Bool.{true, false}
-use Prim.Native.Nat.{ℕ, _+_, _-_, _*_, _/_, _%_, _≤_, _<_}
+use Prim.Native.Nat.{ℕ, _+_, _-_, _*_, _≤_, _<_}
 use native.Mathlib.Omega.{arith}
 use lib.Dec.{eqb}
-use lib.ListN.{length, getD, take, length-set}
+use lib.ListN.{length, getD, length-set}
 use borrow.Author.Needs.{needs}
 use borrow.Author.Tests.{eq-eqb, ne-eqb}
 use Rattle.tables.specs.Tables.{side}
 use Rattle.modules.specs.Modules.{walk, isData}
-use Rattle.scan.specs.Scan.{plain, passed, Walked, Meets}
+use Rattle.scan.specs.Scan.{plain, Meets}
 use Rattle.scan.proofs.Reading.{inside, side-most, plain-place, walked-in, walked-past, steps-inside}
 use Rattle.scan.proofs.meet.Statement.{statement}
 use Rattle.scan.proofs.meet.Tie as tie

@@ -1,12 +1,11 @@
 -- `scan::pack` meets its contract. The loop's invariant: the first q codewords and flags stand.
 -- Assumes nothing.
-use mathlib.Core.Path.{_≡_, refl, sym, ap, _∙_}
-use Prim.Native.Nat.{ℕ, _+_, _-_, _*_, _≤_, _<_}
+use mathlib.Core.Path.{_≡_, refl, sym, _∙_}
+use Prim.Native.Nat.{ℕ, _-_, _≤_}
 use native.Mathlib.Omega.{arith}
 use lib.ListN.{length, take, length-set}
 use borrow.Author.Needs.{needs}
 use Rattle.basics.specs.Build.{build}
-use Rattle.basics.specs.Sums.{one}
 use Rattle.basics.proofs.Build.{build-put, build-all}
 use Rattle.basics.proofs.Lists.{build-upTo}
 use Rattle.scan.specs.Received.{eight, flag, codeword}

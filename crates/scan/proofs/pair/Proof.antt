@@ -1,13 +1,13 @@
 -- `scan::pair` meets its contract. The loop's invariant: the entries so far are the data modules that the steps so far met.
 -- Assumes nothing.
 use mathlib.Core.Path.{_≡_, refl, subst, _∙_}
-use Prim.Native.Nat.{ℕ, _+_, _-_, _*_, _≤_, _<_}
+use Prim.Native.Nat.{ℕ, _+_, _-_, _*_, _≤_}
 use native.Mathlib.Nat.{add-zero, add-assoc}
 use native.Mathlib.Omega.{arith}
-use lib.ListN.{length, take, length-set}
+use lib.ListN.{length}
 use borrow.Author.Needs.{needs}
 use Rattle.tables.specs.Tables.{side}
-use Rattle.scan.specs.Scan.{Walked, Ready}
+use Rattle.scan.specs.Scan.{Walked}
 use Rattle.scan.proofs.pair.Statement.{statement}
 use Rattle.scan.proofs.pair.Tie as tie
 

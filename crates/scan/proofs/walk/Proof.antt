@@ -1,15 +1,15 @@
 -- `scan::walk` meets its contract. The loop's invariant: the column pairs before q are walked.
 -- Assumes nothing.
-use mathlib.Core.Path.{_≡_, refl, subst, sym, ap, _∙_}
-use Prim.Native.Nat.{ℕ, zero, suc, _+_, _-_, _*_, _≤_, _<_}
+use mathlib.Core.Path.{_≡_, refl, subst, sym, _∙_}
+use Prim.Native.Nat.{ℕ, _+_, _-_, _*_, _≤_}
 use native.Mathlib.Nat.{add-mul, mul-assoc, mul-comm, mul-left-comm, one-mul, zero-mul}
 use native.Mathlib.Omega.{arith}
 use mathlib.Core.List.{List}
-use lib.ListN.{length, take}
+use lib.ListN.{length}
 use Rattle.basics.specs.Lists.{from, upTo, keep}
 use borrow.Author.Needs.{needs}
 use Rattle.tables.specs.Tables.{side}
-use Rattle.scan.specs.Scan.{Walked, Ready, passed}
+use Rattle.scan.specs.Scan.{Walked, passed}
 use Rattle.scan.proofs.walk.Statement.{statement}
 use Rattle.scan.proofs.walk.Tie as tie
 

@@ -1,11 +1,11 @@
 -- `tables::block_data` meets its contract.
 -- Assumes nothing.
-use mathlib.Core.Path.{_≡_, sym}
-use Prim.Native.Nat.{ℕ, _+_, _≤_, _<_}
+use mathlib.Core.Path.{sym}
+use Prim.Native.Nat.{_≤_, _<_}
 use native.Mathlib.Nat.{add-zero}
 use native.Mathlib.Omega.{arith}
 use borrow.Author.Tests.{le-leb, lt-leb}
-use Rattle.tables.specs.Tables.{shortLength, shortBlocks, blockData}
+use Rattle.tables.specs.Tables.{shortBlocks, blockData}
 use Rattle.tables.proofs.Rules.{long-most}
 use borrow.Author.Needs.{needs}
 use Rattle.tables.proofs.block_data.Statement.{statement}

@@ -1,9 +1,7 @@
 -- `tables::block_length` meets its contract: it is under 256.
 -- Assumes nothing.
-use mathlib.Core.Path.{_≡_}
-use Prim.Native.Nat.{ℕ, _+_}
 use native.Mathlib.Omega.{arith}
-use Rattle.tables.specs.Tables.{checkCount, blockData, blockLength}
+use Rattle.tables.specs.Tables.{blockLength}
 use Rattle.tables.proofs.Rules.{block-length-most}
 use borrow.Author.Needs.{needs}
 use Rattle.tables.proofs.block_length.Statement.{statement}

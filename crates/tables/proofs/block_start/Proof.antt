@@ -1,9 +1,9 @@
 -- `tables::block_start` meets its contract: what a block starts at has a closed form, and is at most the data.
 -- Assumes nothing.
-use mathlib.Core.Path.{_≡_, sym, _∙_}
-use Prim.Native.Nat.{ℕ, _+_, _-_, _*_, _≤_, _<_}
+use mathlib.Core.Path.{sym}
+use Prim.Native.Nat.{ℕ, _+_, _-_, _*_, _≤_}
 use native.Mathlib.Omega.{arith}
-use Rattle.tables.specs.Tables.{Lawful, blockCount, shortLength, shortBlocks, blockStart}
+use Rattle.tables.specs.Tables.{Lawful, blockCount, shortLength, shortBlocks}
 use Rattle.tables.proofs.Rules.{block-start, block-start-later, data-sum, data-most}
 use borrow.Author.Needs.{needs}
 use Rattle.tables.proofs.block_start.Statement.{statement}

@@ -1,9 +1,7 @@
 -- `tables::data` meets its contract, by the rules of the table.
 -- Assumes nothing.
-use mathlib.Core.Path.{_≡_, refl}
-use Prim.Native.Nat.{ℕ, _+_, _*_, _≤_}
 use native.Mathlib.Omega.{arith}
-use Rattle.tables.specs.Tables.{checkCount, blockCount, dataCount, total}
+use Rattle.tables.specs.Tables.{dataCount, total}
 use Rattle.tables.proofs.Rules.{checks-fit, total-most}
 use borrow.Author.Needs.{needs}
 use Rattle.tables.proofs.data.Statement.{statement}

@@ -1,9 +1,8 @@
 -- `tables::short_blocks` meets its contract: there is a block.
 -- Assumes nothing.
-use mathlib.Core.Path.{_≡_}
-use Prim.Native.Nat.{ℕ, _-_, _%_, _<_, _≤_}
+use Prim.Native.Nat.{_-_}
 use native.Mathlib.Nat.{mod-lt, le-of-lt}
-use Rattle.tables.specs.Tables.{blockCount, dataCount, shortBlocks}
+use Rattle.tables.specs.Tables.{shortBlocks}
 use Rattle.tables.proofs.Rules.{blocks-least}
 use borrow.Author.Needs.{needs}
 use Rattle.tables.proofs.short_blocks.Statement.{statement}

@@ -1,9 +1,6 @@
 -- `tables::short_length` meets its contract: there is a block.
 -- Assumes nothing.
-use mathlib.Core.Path.{_≡_}
-use Prim.Native.Nat.{ℕ, _/_, _<_}
-use native.Mathlib.Omega.{arith}
-use Rattle.tables.specs.Tables.{blockCount, dataCount, shortLength}
+use Rattle.tables.specs.Tables.{shortLength}
 use Rattle.tables.proofs.Rules.{blocks-least}
 use borrow.Author.Needs.{needs}
 use Rattle.tables.proofs.short_length.Statement.{statement}

@@ -1,7 +1,6 @@
 -- `tables::total` meets its contract: the definition's table has an empty row in front.
 -- Assumes nothing.
-use mathlib.Core.Path.{_≡_, _∙_}
-use lib.ListN.{getD}
+use mathlib.Core.Path.{_∙_}
 use Rattle.tables.specs.Tables.{totals, total}
 use Rattle.tables.proofs.Rules.{past-front}
 use borrow.Author.Needs.{needs}

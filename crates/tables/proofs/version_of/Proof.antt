@@ -1,8 +1,8 @@
 -- `tables::version_of` meets its contract. The loop's invariant: the length is that of no version passed.
 -- Assumes nothing.
-use mathlib.Core.Path.{_≡_, sym, ap, _∙_}
+use mathlib.Core.Path.{sym}
 use Rattle.tables.specs.Tables.{side}
-use Prim.Native.Nat.{ℕ, _+_, _-_, _*_, _^_, _≤_, _<_}
+use Prim.Native.Nat.{ℕ, _-_, _*_, _^_, _≤_, _<_}
 use lib.Dec.{ltb, ltb→lt}
 use Rattle.basics.proofs.Test.{at}
 use native.Mathlib.Omega.{arith}

@@ -1,7 +1,5 @@
 -- `words::format_bits` meets its contract.
 -- Assumes nothing.
-use mathlib.Core.Path.{_≡_}
-use Prim.Native.Nat.{ℕ, _+_, _*_, _<_}
 use native.Mathlib.Omega.{arith}
 use Rattle.words.specs.Words.{formatBits}
 use Rattle.words.proofs.Bits.{format-bits-lt}

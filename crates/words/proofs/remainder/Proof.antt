@@ -1,12 +1,12 @@
 -- `words::remainder` meets its contract. The loop's invariant: what is left has the remainder that is asked for.
 -- Assumes nothing.
-use native.Mathlib.Nat.{not-suc-le-zero, mul-le-mul-left, mod-eq-of-lt, le-trans}
+use native.Mathlib.Nat.{not-suc-le-zero, mul-le-mul-left, mod-eq-of-lt}
 use native.Mathlib.Numerals.{sub-one}
 use lib.Arith.{le-zero}
 use lib.Pow.{pow-mono}
 use lib.Bits.{bitXor, xor-lt}
 use Rattle.basics.proofs.Xor.{digit}
-use mathlib.Core.Path.{_≡_, sym, ap, _∙_}
+use mathlib.Core.Path.{_≡_, _∙_}
 use Prim.Native.Nat.{ℕ, zero, suc, _+_, _-_, _*_, _/_, _%_, _^_, _≤_, _<_}
 use native.Mathlib.Omega.{arith}
 use borrow.Author.Needs.{needs}

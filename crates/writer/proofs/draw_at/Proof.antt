@@ -3,14 +3,13 @@
 use mathlib.Core.Path.{_≡_, refl, sym, ap, ap₂, _∙_}
 use mathlib.Core.List.{List, _++_}
 use Prim.Native.Nat.{ℕ, _*_, _≤_}
-use native.Mathlib.Nat.{mul-le-mul}
 use native.Mathlib.Omega.{arith}
-use lib.ListN.{length, take, drop}
+use lib.ListN.{length, drop}
 use lib.Seq.{length-take-le}
 use Rattle.tables.specs.Tables.{side}
 use Rattle.stream.specs.Stream.{dataCodewords}
 use Rattle.blocks.specs.Blocks.{sent}
-use Rattle.modules.specs.Kinds.{laid, finished}
+use Rattle.modules.specs.Kinds.{finished}
 use Rattle.modules.proofs.Tints.{finished-laid}
 use Rattle.writer.specs.Answer.{maskDrawn}
 use Rattle.writer.proofs.Steps.{area-le, Stands, stands, laid-base, mask-chosen}

@@ -1,9 +1,8 @@
 -- `writer::finish_drawn` meets its contract.
 -- Assumes nothing.
-use mathlib.Core.Path.{_≡_, refl, sym, ap, _∙_}
+use mathlib.Core.Path.{ap, _∙_}
 use mathlib.Core.List.{List, _++_}
 use Prim.Native.Nat.{ℕ}
-use native.Mathlib.Omega.{arith}
 use Rattle.modules.specs.Kinds.{finished}
 use Rattle.writer.proofs.Steps.{mask-small}
 use borrow.Author.Needs.{needs}

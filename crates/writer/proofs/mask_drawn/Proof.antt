@@ -1,6 +1,6 @@
 -- `writer::mask_drawn` meets its contract.
 -- Assumes nothing.
-use mathlib.Core.Path.{_≡_, refl, sym, ap, _∙_}
+use mathlib.Core.Path.{refl}
 use borrow.Author.Tests.{eq-eqb, ne-eqb}
 use Rattle.writer.specs.Answer.{maskDrawn}
 use borrow.Author.Needs.{needs}

@@ -1,11 +1,11 @@
 -- `writer::score_under` meets its contract: what is scored is the front that `finish` left.
 -- Assumes nothing.
-use mathlib.Core.Path.{_≡_, refl, sym, ap, ap₂, _∙_}
-use mathlib.Core.List.{List, _++_}
+use mathlib.Core.Path.{_≡_, sym, ap, ap₂, _∙_}
+use mathlib.Core.List.{List}
 use Prim.Native.Nat.{ℕ, _*_, _≤_}
 use native.Mathlib.Nat.{mul-le-mul}
 use native.Mathlib.Omega.{arith}
-use lib.ListN.{length, take, drop}
+use lib.ListN.{length, drop}
 use Rattle.tables.specs.Tables.{side}
 use Rattle.modules.specs.Kinds.{finished}
 use Rattle.penalty.specs.Penalty.{score}

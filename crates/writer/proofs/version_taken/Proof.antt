@@ -1,8 +1,7 @@
 -- `writer::version_taken` meets its contract.
 -- Assumes nothing.
-use mathlib.Core.Path.{_≡_, refl, sym, ap, _∙_}
+use mathlib.Core.Path.{sym, ap, _∙_}
 use Prim.Native.Nat.{ℕ}
-use native.Mathlib.Omega.{arith}
 use Rattle.writer.specs.Writer.{taken}
 use Rattle.writer.proofs.Fit.{taken-named, taken-refused}
 use borrow.Author.Needs.{needs}
