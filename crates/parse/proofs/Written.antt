@@ -14,7 +14,6 @@ use Rattle.basics.specs.Lists.{each, AtMost}
 use Rattle.cursor.proofs.Bits.{at-most-take, at-most-drop}
 use Rattle.basics.proofs.Bits.{length-bits, length-byteBits}
 use Rattle.tables.specs.Tables.{countWidth}
-use Rattle.stream.specs.Stream
 use Rattle.stream.specs.Stream.{codeOf, known, inMode, numericBits, alphanumericBits, body, bodyWidth, segments, lawfulList, counts, lawfulCharacters}
 use Rattle.parse.specs.Parse.{characters, inRange, End, headWidth, front, Message, inFront, parse}
 use Rattle.parse.proofs.Body.{both-left, both-right, by-mode, number-front, drop-front, body-written}

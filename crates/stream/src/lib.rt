@@ -10,7 +10,7 @@ ghost use Rattle.basics.specs.Bits.{byteBits};
 ghost use Rattle.basics.specs.Lists.{each};
 ghost use Rattle.tables.specs.Tables.{Lawful, dataCount, countWidth};
 ghost use Rattle.stream.specs.Put.{Room, Put, segmentBits};
-ghost use Rattle.stream.specs.Stream.{codeOf, known as isKnown, inMode, lawfulList, counts, lawfulCharacters, bodyWidth, fits as doesFit, numericBits, alphanumericBits, body, segments, segmentsWidth, pads, dataCodewords, LawfulMessage};
+ghost use Rattle.stream.specs.Stream.{codeOf, known as isKnown, inMode, lawfulList, counts, lawfulCharacters, bodyWidth, fits as doesFit, numericBits, alphanumericBits, body, segments, pads, dataCodewords, LawfulMessage};
 
 fn wide(x: u16) -> usize
     ensures { λ r. ⌜ r ≡ x ⌝ }

@@ -1,6 +1,6 @@
 // The writer: the symbol that a request gets, or the number of its refusal.
 ghost use mathlib.Core.Path.{_≡_};
-ghost use Prim.Native.Nat.{ℕ, _+_, _*_, _<_, _≤_};
+ghost use Prim.Native.Nat.{_+_, _*_, _<_, _≤_};
 ghost use lib.ListN.{length};
 ghost use Rattle.tables.specs.Tables.{lastVersion, mostCodewords, total, Lawful, side as sideOf};
 ghost use Rattle.stream.specs.Stream.{LawfulMessage, dataCodewords};

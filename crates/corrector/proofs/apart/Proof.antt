@@ -2,8 +2,6 @@
 use borrow.Author.Tests.{eq-eqb, ne-eqb}
 use Rattle.corrector.proofs.apart.Statement.{statement}
 use Rattle.corrector.proofs.apart.Tie as tie
-use Rattle.corrector.proofs.apart.Reads as reads
-use Rattle.corrector.proofs.apart.Lts as lts
 
 returns : tie.Need-returns
 returns c = rw (ne-eqb _ _ (c .if1 .taken))

@@ -9,8 +9,6 @@ use lib.ListN.{length, getD, length-set}
 use lib.Seq.{getD-set-same, getD-set-other}
 use Rattle.corrector.proofs.copied.Statement.{statement}
 use Rattle.corrector.proofs.copied.Tie as tie
-use Rattle.corrector.proofs.copied.Reads as reads
-use Rattle.corrector.proofs.copied.Lts as lts
 
 abbrev Inv-loop : tie.InvT-loop
 Inv-loop word r₀ j₀ r j = (j ≤ length word) × (length r ≡ 255) × ((k : ℕ) → k < j → getD r k 0 ≡ getD word k 0)

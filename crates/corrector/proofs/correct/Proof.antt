@@ -8,14 +8,6 @@ use Rattle.corrector.proofs.Testing.{clean, none, stood}
 use borrow.Author.Needs.{needs}
 use Rattle.corrector.proofs.correct.Statement.{statement}
 use Rattle.corrector.proofs.correct.Tie as tie
-use Rattle.corrector.proofs.correct.Reads as reads
-use Rattle.corrector.proofs.correct.Lts as lts
-use Rattle.code.proofs.syndromes.Reads as syndromes-reads
-use Rattle.corrector.proofs.first.Reads as first-reads
-use Rattle.corrector.proofs.missing.Reads as missing-reads
-use Rattle.corrector.proofs.proposed.Reads as proposed-reads
-use Rattle.corrector.proofs.put.Reads as put-reads
-use Rattle.corrector.proofs.tested.Reads as tested-reads
 
 missing-requires : tie.Need-missing-requires
 missing-requires c κs = search needs

@@ -11,9 +11,6 @@ use Rattle.code.specs.Code.{differing}
 use Rattle.corrector.proofs.Counting.{Counted, counted-start, counted-step, one-most}
 use Rattle.corrector.proofs.differ.Statement.{statement}
 use Rattle.corrector.proofs.differ.Tie as tie
-use Rattle.corrector.proofs.differ.Reads as reads
-use Rattle.corrector.proofs.differ.Lts as lts
-use Rattle.corrector.proofs.apart.Reads as apart-reads
 
 abbrev Inv-loop : tie.InvT-loop
 Inv-loop word flags c t₀ j₀ t j = (j ≤ length word) × Counted (λ j. eqb (getD flags j 0) 0 && not (eqb (getD word j 0) (getD c j 0))) j t

@@ -13,10 +13,6 @@ use Rattle.corrector.proofs.Rows.{Row}
 use Rattle.corrector.proofs.Erasing.{Erasing, erasing-turn, power-start}
 use Rattle.corrector.proofs.erased.Statement.{statement}
 use Rattle.corrector.proofs.erased.Tie as tie
-use Rattle.corrector.proofs.erased.Reads as reads
-use Rattle.corrector.proofs.erased.Lts as lts
-use Rattle.corrector.proofs.without.Reads as without-reads
-use Rattle.field.proofs.dbl.Reads as dbl-reads
 
 abbrev Inv-loop : tie.InvT-loop
 Inv-loop flags r₀ x₀ j₀ r x j = Row r × (j ≤ length flags) × (x ≡ powN (length flags - j)) × Erasing flags r₀ r j

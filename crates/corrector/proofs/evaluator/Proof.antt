@@ -11,10 +11,6 @@ use Rattle.corrector.proofs.Rows.{Row, zeros-row}
 use Rattle.corrector.proofs.Turns.{Summed, summed-start, summed-turn, summed-all}
 use Rattle.corrector.proofs.evaluator.Statement.{statement}
 use Rattle.corrector.proofs.evaluator.Tie as tie
-use Rattle.corrector.proofs.evaluator.Reads as reads
-use Rattle.corrector.proofs.evaluator.Lts as lts
-use Rattle.corrector.proofs.lower.Reads as lower-reads
-use Rattle.corrector.proofs.times_plus.Reads as times-plus-reads
 
 abbrev Inv-loop : tie.InvT-loop
 Inv-loop a count s r₀ k₀ r k = Row r × (k ≤ count) × Summed a s r k

@@ -7,8 +7,6 @@ use borrow.Author.Count.{below-more}
 use lib.ListN.{getD}
 use Rattle.corrector.proofs.first.Statement.{statement}
 use Rattle.corrector.proofs.first.Tie as tie
-use Rattle.corrector.proofs.first.Reads as reads
-use Rattle.corrector.proofs.first.Lts as lts
 
 abbrev Inv-loop : tie.InvT-loop
 Inv-loop s i₀ i = (i ≤ 32) × ((k : ℕ) → k < i → getD s k 0 ≡ 0)

@@ -16,9 +16,6 @@ use Rattle.corrector.specs.Places.{Found}
 use Rattle.corrector.proofs.Listing.{grouped-turn}
 use Rattle.corrector.proofs.grouped.Statement.{statement}
 use Rattle.corrector.proofs.grouped.Tie as tie
-use Rattle.corrector.proofs.grouped.Reads as reads
-use Rattle.corrector.proofs.grouped.Lts as lts
-use Rattle.corrector.proofs.noted.Reads as noted-reads
 
 abbrev Inv-loop : tie.InvT-loop
 Inv-loop flags top many vs xs list₀ i₀ list i =

@@ -11,9 +11,6 @@ use Rattle.corrector.proofs.Rows.{Row}
 use Rattle.corrector.proofs.Turns.{Inverting, inverting-start, inverting-turn, inverting-all, ones-row}
 use Rattle.corrector.proofs.inverses.Statement.{statement}
 use Rattle.corrector.proofs.inverses.Tie as tie
-use Rattle.corrector.proofs.inverses.Reads as reads
-use Rattle.corrector.proofs.inverses.Lts as lts
-use Rattle.corrector.proofs.times_plus.Reads as times-plus-reads
 
 abbrev Inv-loop : tie.InvT-loop
 Inv-loop zeros r₀ s₀ k₀ r s k = Row r × Row s × Inverting s₀ r s k

@@ -13,10 +13,6 @@ use Rattle.theory.proofs.Values.{product}
 use Rattle.corrector.proofs.Turns.{product-start, product-turn}
 use Rattle.corrector.proofs.locator.Statement.{statement}
 use Rattle.corrector.proofs.locator.Tie as tie
-use Rattle.corrector.proofs.locator.Reads as reads
-use Rattle.corrector.proofs.locator.Lts as lts
-use Rattle.corrector.proofs.raise.Reads as raise-reads
-use Rattle.corrector.proofs.times_plus.Reads as times-plus-reads
 
 abbrev Inv-loop : tie.InvT-loop
 Inv-loop count xs r₀ k₀ r k = Row r × (k ≤ count) × ((h : ℕ) → poly r h ≡ product gf256 (poly xs) k h)

@@ -5,8 +5,6 @@ use native.Mathlib.Omega.{arith}
 use Rattle.corrector.proofs.Late.{Lowering, lowered-start, lowered-turn, lowered-all}
 use Rattle.corrector.proofs.lower.Statement.{statement}
 use Rattle.corrector.proofs.lower.Tie as tie
-use Rattle.corrector.proofs.lower.Reads as reads
-use Rattle.corrector.proofs.lower.Lts as lts
 
 abbrev Inv-loop : tie.InvT-loop
 Inv-loop i a r₀ k₀ r k = (k ≤ 32) × (i + k ≤ 32) × Lowering a i k r

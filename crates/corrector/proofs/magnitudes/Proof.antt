@@ -9,14 +9,6 @@ use Rattle.corrector.proofs.Turns.{magnitudes-made, product-few, evalua
 use borrow.Author.Needs.{needs}
 use Rattle.corrector.proofs.magnitudes.Statement.{statement}
 use Rattle.corrector.proofs.magnitudes.Tie as tie
-use Rattle.corrector.proofs.magnitudes.Reads as reads
-use Rattle.corrector.proofs.magnitudes.Lts as lts
-use Rattle.corrector.proofs.evaluator.Reads as evaluator-reads
-use Rattle.corrector.proofs.inverses.Reads as inverses-reads
-use Rattle.corrector.proofs.locator.Reads as locator-reads
-use Rattle.corrector.proofs.slopes.Reads as slopes-reads
-use Rattle.corrector.proofs.times_plus.Reads as times-plus-reads
-use Rattle.corrector.proofs.values.Reads as values-reads
 
 locator-requires : tie.Need-locator-requires
 locator-requires c κs = search needs

@@ -2,8 +2,6 @@
 use borrow.Author.Tests.{eq-eqb, ne-eqb}
 use Rattle.corrector.proofs.mark.Statement.{statement}
 use Rattle.corrector.proofs.mark.Tie as tie
-use Rattle.corrector.proofs.mark.Reads as reads
-use Rattle.corrector.proofs.mark.Lts as lts
 
 returns : tie.Need-returns
 returns c = rw (eq-eqb _ _ (c .if1 .taken))

@@ -10,9 +10,6 @@ use Rattle.corrector.specs.Places.{Mended}
 use Rattle.corrector.proofs.Mending.{mended-start, mended-step}
 use Rattle.corrector.proofs.mended.Statement.{statement}
 use Rattle.corrector.proofs.mended.Tie as tie
-use Rattle.corrector.proofs.mended.Reads as reads
-use Rattle.corrector.proofs.mended.Lts as lts
-use Rattle.corrector.proofs.copied.Reads as copied-reads
 
 abbrev Inv-loop : tie.InvT-loop
 Inv-loop word count at values r₀ k₀ r k = (k ≤ count) × (length r ≡ 255) × Mended word at values k r

@@ -11,9 +11,6 @@ use Rattle.code.specs.Code.{unreadable}
 use Rattle.corrector.proofs.Counting.{Counted, counted-start, counted-step, one-most}
 use Rattle.corrector.proofs.missing.Statement.{statement}
 use Rattle.corrector.proofs.missing.Tie as tie
-use Rattle.corrector.proofs.missing.Reads as reads
-use Rattle.corrector.proofs.missing.Lts as lts
-use Rattle.corrector.proofs.mark.Reads as mark-reads
 
 abbrev Inv-loop : tie.InvT-loop
 Inv-loop flags e₀ j₀ e j = (j ≤ length flags) × Counted (λ j. not (eqb (getD flags j 0) 0)) j e

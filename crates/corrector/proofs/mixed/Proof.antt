@@ -4,10 +4,6 @@ use Rattle.corrector.specs.Lanes.{filled, timesPlus}
 use borrow.Author.Needs.{needs}
 use Rattle.corrector.proofs.mixed.Statement.{statement}
 use Rattle.corrector.proofs.mixed.Tie as tie
-use Rattle.corrector.proofs.mixed.Reads as reads
-use Rattle.corrector.proofs.mixed.Lts as lts
-use Rattle.corrector.proofs.raise.Reads as raise-reads
-use Rattle.corrector.proofs.times_plus.Reads as times-plus-reads
 
 raise-requires : tie.Need-raise-requires
 raise-requires c κs = search needs

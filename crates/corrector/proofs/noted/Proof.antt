@@ -9,8 +9,6 @@ use Rattle.corrector.proofs.Listing.{found-pass, found-full, found-more
 use borrow.Author.Needs.{needs}
 use Rattle.corrector.proofs.noted.Statement.{statement}
 use Rattle.corrector.proofs.noted.Tie as tie
-use Rattle.corrector.proofs.noted.Reads as reads
-use Rattle.corrector.proofs.noted.Lts as lts
 
 returns : tie.Need-returns
 returns c = (omega arith, λ flags a l e p f. found-pass f (e ∙ rw (eq-eqb _ _ (c .before .if1 .taken), ne-eqb _ _ (c .if2 .taken))))

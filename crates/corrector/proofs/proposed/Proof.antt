@@ -9,14 +9,6 @@ use Rattle.corrector.proofs.Finding.{Traced, counted, listed-place, rig
 use borrow.Author.Needs.{needs}
 use Rattle.corrector.proofs.proposed.Statement.{statement}
 use Rattle.corrector.proofs.proposed.Tie as tie
-use Rattle.corrector.proofs.proposed.Reads as reads
-use Rattle.corrector.proofs.proposed.Lts as lts
-use Rattle.corrector.proofs.copied.Reads as copied-reads
-use Rattle.corrector.proofs.erased.Reads as erased-reads
-use Rattle.corrector.proofs.magnitudes.Reads as magnitudes-reads
-use Rattle.corrector.proofs.mended.Reads as mended-reads
-use Rattle.corrector.proofs.run.Reads as run-reads
-use Rattle.corrector.proofs.suspected.Reads as suspected-reads
 
 -- what is known once the suspected places are listed
 traced :

@@ -8,8 +8,6 @@ use lib.Seq.{take-all}
 use Rattle.code.proofs.Lanes.{copied-more}
 use Rattle.corrector.proofs.put.Statement.{statement}
 use Rattle.corrector.proofs.put.Tie as tie
-use Rattle.corrector.proofs.put.Reads as reads
-use Rattle.corrector.proofs.put.Lts as lts
 
 abbrev Inv-loop : tie.InvT-loop
 Inv-loop word₀ c j₀ word j = (j ≤ length c) × (length word ≡ length word₀) × (take j word ≡ take j c)

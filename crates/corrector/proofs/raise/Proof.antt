@@ -5,8 +5,6 @@ use native.Mathlib.Omega.{arith}
 use Rattle.corrector.proofs.Late.{Raising, raised-start, raised-turn, raised-all}
 use Rattle.corrector.proofs.raise.Statement.{statement}
 use Rattle.corrector.proofs.raise.Tie as tie
-use Rattle.corrector.proofs.raise.Reads as reads
-use Rattle.corrector.proofs.raise.Lts as lts
 
 abbrev Inv-loop : tie.InvT-loop
 Inv-loop k a r₀ h₀ r h = (k ≤ h) × (h ≤ 32) × Raising a k h r

@@ -8,9 +8,6 @@ use Rattle.corrector.specs.Lanes.{Running}
 use Rattle.corrector.proofs.Running.{running-start, inverse-start}
 use Rattle.corrector.proofs.run.Statement.{statement}
 use Rattle.corrector.proofs.run.Tie as tie
-use Rattle.corrector.proofs.run.Reads as reads
-use Rattle.corrector.proofs.run.Lts as lts
-use Rattle.corrector.proofs.step.Reads as step-reads
 
 abbrev Inv-loop : tie.InvT-loop
 Inv-loop s m st₀ n₀ st n = Running s (st .i) (st .l) (st .a) (st .b) (st .e) × (st .i + st .l ≡ n) × (n ≤ m) × (st .f ≡ invN (st .e))

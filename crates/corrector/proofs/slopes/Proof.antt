@@ -13,9 +13,6 @@ use Rattle.theory.proofs.Values.{slopes-all}
 use Rattle.corrector.proofs.Turns.{Valued, Sloped, valued-start, valued-turn, sloped-start, sloped-turn}
 use Rattle.corrector.proofs.slopes.Statement.{statement}
 use Rattle.corrector.proofs.slopes.Tie as tie
-use Rattle.corrector.proofs.slopes.Reads as reads
-use Rattle.corrector.proofs.slopes.Lts as lts
-use Rattle.corrector.proofs.times_plus.Reads as times-plus-reads
 
 abbrev Inv-loop : tie.InvT-loop
 Inv-loop m xs a r₀ p₀ k₀ r p k = Row r × Row p × (k ≤ 32) × Sloped a xs r k × Valued a xs p k

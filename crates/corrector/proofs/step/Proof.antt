@@ -9,12 +9,6 @@ use Rattle.corrector.proofs.Running.{Seen, running-keep, running-mend, 
 use borrow.Author.Needs.{needs}
 use Rattle.corrector.proofs.step.Statement.{statement}
 use Rattle.corrector.proofs.step.Tie as tie
-use Rattle.corrector.proofs.step.Reads as reads
-use Rattle.corrector.proofs.step.Lts as lts
-use Rattle.corrector.proofs.mixed.Reads as mixed-reads
-use Rattle.corrector.proofs.window.Reads as window-reads
-use Rattle.field.proofs.inv.Reads as inv-reads
-use Rattle.field.proofs.mul.Reads as mul-reads
 
 seen :
     (c : tie.After-window) →

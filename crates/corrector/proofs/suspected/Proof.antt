@@ -13,12 +13,6 @@ use Rattle.corrector.proofs.Rows.{Row}
 use Rattle.corrector.proofs.Listing.{Located, located-start, located-turn, found-start, powers, powers-row}
 use Rattle.corrector.proofs.suspected.Statement.{statement}
 use Rattle.corrector.proofs.suspected.Tie as tie
-use Rattle.corrector.proofs.suspected.Reads as reads
-use Rattle.corrector.proofs.suspected.Lts as lts
-use Rattle.corrector.proofs.grouped.Reads as grouped-reads
-use Rattle.corrector.proofs.least.Reads as least-reads
-use Rattle.corrector.proofs.times_plus.Reads as times-plus-reads
-use Rattle.corrector.proofs.values.Reads as values-reads
 
 abbrev Inv-loop : tie.InvT-loop
 Inv-loop flags a m zeros stride found₀ xs₀ top₀ found xs top = Row xs × (top ≤ length flags) × (0 < top → Located (length flags) top xs) × Found flags a top (found .at) (found .xs) (found .count)

@@ -6,12 +6,6 @@ use Rattle.corrector.proofs.Testing.{zeros-codeword, no-codeword, diffe
 use borrow.Author.Needs.{needs}
 use Rattle.corrector.proofs.tested.Statement.{statement}
 use Rattle.corrector.proofs.tested.Tie as tie
-use Rattle.corrector.proofs.tested.Reads as reads
-use Rattle.corrector.proofs.tested.Lts as lts
-use Rattle.code.proofs.syndromes.Reads as syndromes-reads
-use Rattle.corrector.proofs.differ.Reads as differ-reads
-use Rattle.corrector.proofs.first.Reads as first-reads
-use Rattle.corrector.proofs.missing.Reads as missing-reads
 
 -- the counts are within the block's length
 counts : (c : tie.After-missing) → (c .before .differ .result ≤ 255) × (c .missing .result ≤ 255)

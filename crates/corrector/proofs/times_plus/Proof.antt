@@ -11,9 +11,6 @@ use Rattle.field.specs.Field.{mulN}
 use Rattle.corrector.specs.Lanes.{timesPlus}
 use Rattle.corrector.proofs.times_plus.Statement.{statement}
 use Rattle.corrector.proofs.times_plus.Tie as tie
-use Rattle.corrector.proofs.times_plus.Reads as reads
-use Rattle.corrector.proofs.times_plus.Lts as lts
-use Rattle.field.proofs.mul.Reads as mul-reads
 
 abbrev Inv-loop : tie.InvT-loop
 Inv-loop a b c r₀ i₀ r i = (i ≤ 32) × (length r ≡ 32) × (take i r ≡ build (λ i. bitXor (mulN (getD a i 0) (getD b i 0)) (getD c i 0)) i)

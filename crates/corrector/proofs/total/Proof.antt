@@ -10,8 +10,6 @@ use Rattle.corrector.specs.Lanes.{poly}
 use Rattle.corrector.proofs.Rows.{total-step}
 use Rattle.corrector.proofs.total.Statement.{statement}
 use Rattle.corrector.proofs.total.Tie as tie
-use Rattle.corrector.proofs.total.Reads as reads
-use Rattle.corrector.proofs.total.Lts as lts
 
 abbrev Inv-loop : tie.InvT-loop
 Inv-loop a r₀ i₀ r i = (i ≤ 32) × (elt r ≡ sum gf256 i (poly a))

@@ -13,9 +13,6 @@ use Rattle.theory.proofs.Values.{tail-all}
 use Rattle.corrector.proofs.Turns.{Valued, valued-start, valued-turn}
 use Rattle.corrector.proofs.values.Statement.{statement}
 use Rattle.corrector.proofs.values.Tie as tie
-use Rattle.corrector.proofs.values.Reads as reads
-use Rattle.corrector.proofs.values.Lts as lts
-use Rattle.corrector.proofs.times_plus.Reads as times-plus-reads
 
 abbrev Inv-loop : tie.InvT-loop
 Inv-loop m xs a r₀ k₀ r k = Row r × (k ≤ 32) × Valued a xs r k

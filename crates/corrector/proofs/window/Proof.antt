@@ -11,11 +11,6 @@ use Rattle.corrector.proofs.Rows.{Row, windowed}
 use borrow.Author.Needs.{needs}
 use Rattle.corrector.proofs.window.Statement.{statement}
 use Rattle.corrector.proofs.window.Tie as tie
-use Rattle.corrector.proofs.window.Reads as reads
-use Rattle.corrector.proofs.window.Lts as lts
-use Rattle.corrector.proofs.lower.Reads as lower-reads
-use Rattle.corrector.proofs.times_plus.Reads as times-plus-reads
-use Rattle.corrector.proofs.total.Reads as total-reads
 
 lower-requires : tie.Need-lower-requires
 lower-requires c κs = search needs

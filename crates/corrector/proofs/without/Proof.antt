@@ -5,10 +5,6 @@ use Rattle.corrector.specs.Lanes.{filled, timesPlus}
 use borrow.Author.Needs.{needs}
 use Rattle.corrector.proofs.without.Statement.{statement}
 use Rattle.corrector.proofs.without.Tie as tie
-use Rattle.corrector.proofs.without.Reads as reads
-use Rattle.corrector.proofs.without.Lts as lts
-use Rattle.corrector.proofs.lower.Reads as lower-reads
-use Rattle.corrector.proofs.times_plus.Reads as times-plus-reads
 
 returns : tie.Need-returns
 returns c = rw (eq-eqb _ _ (c .if1 .taken))

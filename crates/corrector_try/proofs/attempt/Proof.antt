@@ -6,13 +6,6 @@ use lib.Seq.{length-take-le}
 use borrow.Author.Needs.{needs}
 use Rattle.corrector_try.proofs.attempt.Statement.{statement}
 use Rattle.corrector_try.proofs.attempt.Tie as tie
-use Rattle.corrector_try.proofs.attempt.Reads as reads
-use Rattle.corrector_try.proofs.attempt.Lts as lts
-use Rattle.corrector_try.proofs.answer.Reads as answer-reads
-use Rattle.corrector_try.proofs.codeword.Reads as codeword-reads
-use Rattle.corrector_try.proofs.marked.Reads as marked-reads
-use Rattle.corrector_try.proofs.noise.Reads as noise-reads
-use Rattle.corrector_try.proofs.spoiled.Reads as spoiled-reads
 
 add-len : tie.Need-add-len
 add-len c = search needs

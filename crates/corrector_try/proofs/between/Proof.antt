@@ -5,8 +5,6 @@ use mathlib.Core.Path.{_≡_}
 use lib.ListN.{length}
 use Rattle.corrector_try.proofs.between.Statement.{statement}
 use Rattle.corrector_try.proofs.between.Tie as tie
-use Rattle.corrector_try.proofs.between.Reads as reads
-use Rattle.corrector_try.proofs.between.Lts as lts
 
 abbrev Inv-loop : tie.InvT-loop
 Inv-loop a b other r₀ k₀ r k = (k ≤ b) × (length r ≡ 255)

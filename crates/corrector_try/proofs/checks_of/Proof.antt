@@ -7,9 +7,6 @@ use lib.Seq.{length-take-le}
 use borrow.Author.Needs.{needs}
 use Rattle.corrector_try.proofs.checks_of.Statement.{statement}
 use Rattle.corrector_try.proofs.checks_of.Tie as tie
-use Rattle.corrector_try.proofs.checks_of.Reads as reads
-use Rattle.corrector_try.proofs.checks_of.Lts as lts
-use Rattle.code.proofs.checks_into.Reads as checks-into-reads
 
 array-share-prefix-held : tie.Need-array-share-prefix-held
 array-share-prefix-held c = search needs

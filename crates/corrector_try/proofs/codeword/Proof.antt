@@ -5,9 +5,6 @@ use mathlib.Core.Path.{_≡_}
 use lib.ListN.{length}
 use Rattle.corrector_try.proofs.codeword.Statement.{statement}
 use Rattle.corrector_try.proofs.codeword.Tie as tie
-use Rattle.corrector_try.proofs.codeword.Reads as reads
-use Rattle.corrector_try.proofs.codeword.Lts as lts
-use Rattle.corrector_try.proofs.checks_of.Reads as checks-of-reads
 
 abbrev Inv-loop : tie.InvT-loop
 Inv-loop d n checks r₀ k₀ r k = (k ≤ n) × (length r ≡ 255)

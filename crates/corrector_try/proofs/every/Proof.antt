@@ -3,10 +3,6 @@ use borrow.Author.Needs.{needs}
 use Prim.Native.Nat.{_-_, _≤_}
 use Rattle.corrector_try.proofs.every.Statement.{statement}
 use Rattle.corrector_try.proofs.every.Tie as tie
-use Rattle.corrector_try.proofs.every.Reads as reads
-use Rattle.corrector_try.proofs.every.Lts as lts
-use Rattle.corrector_try.proofs.kind.Reads as kind-reads
-use Rattle.corrector_try.proofs.wide.Reads as wide-reads
 
 abbrev Inv-loop : tie.InvT-loop
 Inv-loop «data» checks k₀ k = k ≤ 47

@@ -6,12 +6,6 @@ use lib.Seq.{length-take-le}
 use borrow.Author.Needs.{needs}
 use Rattle.corrector_try.proofs.nearer.Statement.{statement}
 use Rattle.corrector_try.proofs.nearer.Tie as tie
-use Rattle.corrector_try.proofs.nearer.Reads as reads
-use Rattle.corrector_try.proofs.nearer.Lts as lts
-use Rattle.corrector_try.proofs.answer.Reads as answer-reads
-use Rattle.corrector_try.proofs.between.Reads as between-reads
-use Rattle.corrector_try.proofs.codeword.Reads as codeword-reads
-use Rattle.corrector_try.proofs.noise.Reads as noise-reads
 
 noise-requires : tie.Need-noise-requires
 noise-requires c κs = search needs

@@ -5,8 +5,6 @@ use mathlib.Core.Path.{_≡_}
 use lib.ListN.{length}
 use Rattle.corrector_try.proofs.noise.Statement.{statement}
 use Rattle.corrector_try.proofs.noise.Tie as tie
-use Rattle.corrector_try.proofs.noise.Reads as reads
-use Rattle.corrector_try.proofs.noise.Lts as lts
 
 abbrev Inv-loop : tie.InvT-loop
 Inv-loop seed r₀ x₀ j₀ r x j = (x < 65537) × (j ≤ 255) × (length r ≡ 255)

@@ -5,8 +5,6 @@ use mathlib.Core.Path.{_≡_}
 use lib.ListN.{length}
 use Rattle.corrector_try.proofs.spoiled.Statement.{statement}
 use Rattle.corrector_try.proofs.spoiled.Tie as tie
-use Rattle.corrector_try.proofs.spoiled.Reads as reads
-use Rattle.corrector_try.proofs.spoiled.Lts as lts
 
 abbrev Inv-loop : tie.InvT-loop
 Inv-loop count word r₀ k₀ r k = (k ≤ count) × (length r ≡ 255)

@@ -6,12 +6,6 @@ use Rattle.cursor.specs.Cursor.{field}
 use Rattle.parse.proofs.Along.{Along, along-none, along-all, Turn, turn}
 use Rattle.parse.proofs.read_body.Statement.{statement}
 use Rattle.parse.proofs.read_body.Tie as tie
-use Rattle.parse.proofs.read_body.Reads as reads
-use Rattle.parse.proofs.read_body.Lts as lts
-use Rattle.cursor.proofs.Cursor.take.Reads as take-reads
-use Rattle.parse.proofs.next_group.Reads as next-group-reads
-use Rattle.parse.proofs.put_group.Reads as put-group-reads
-use Rattle.parse.proofs.wide.Reads as wide-reads
 
 abbrev Inv-loop : tie.InvT-loop
 Inv-loop codewords mode count payload₀ used at₀ done₀ payload at done =
