@@ -65,9 +65,6 @@ module _ (K : Field) where
   after-zero : (h : F) → h ⊕ 𝟘 ≡ h
   after-zero h = simp ring
 
-  both-vanish : (h a b : F) → h ⊕ a ≡ 𝟘 → h ⊕ b ≡ 𝟘 → a ≡ b
-  both-vanish h a b p q = sym (⊕-equal K h a p) ∙ ⊕-equal K h b q
-
 open Field gf256 using (_⊕_, _⊗_, 𝟘, 𝟙)
 
 -- the value of a list at x

@@ -1,7 +1,7 @@
 -- The bytes as a field: the numbers below 256, with the laws of `Laws.antt`.
 -- `elt` and `val` go between a number of a program and the byte; `elt` is total, so a list of a program's numbers maps to one of bytes with no proof.
 -- Assumes nothing.
-use mathlib.Core.Path.{_≡_, refl, sym, ap, _∙_}
+use mathlib.Core.Path.{_≡_, sym, ap, _∙_}
 use Prim.Native.Nat.{ℕ, Fin, _%_, _<_}
 use native.Mathlib.Nat.{mod-lt, mod-eq-of-lt}
 use native.Mathlib.Omega.{arith}
@@ -37,14 +37,6 @@ val-elt n h = mod-eq-of-lt h
 
 pub elt-val : (a : Byte) → elt (val a) ≡ a
 elt-val a = Fin·val-path (val-elt (a .0) (a .1))
-
-pub val-add : (a b : Byte) → val (add a b) ≡ bitXor (val a) (val b)
-unfolding add
-val-add a b = refl
-
-pub val-mul : (a b : Byte) → val (mul a b) ≡ mulN (val a) (val b)
-unfolding mul
-val-mul a b = refl
 
 pub elt-add : (a b : ℕ) → elt (bitXor a b) ≡ add (elt a) (elt b)
 unfolding elt add

@@ -25,11 +25,7 @@ use Rattle.modules.specs.Geometry.{PlacedOnce, WordPlaces, Placement, Fi
 use Rattle.modules.proofs.Kept.{not-both, count, nth, rank, nth-lt, nth-passes, rank-nth, rank-lt, nth-rank, length-keep, keep-nth, fill-at, fill-le}
 use Rattle.modules.proofs.Tests.{versions, at-version, both-left, both-right, there, walk-tested, back, step-tested, six-tested, order-tested, isFormat, isVersion, formatThere, versionThere, format-tested, version-tested}
 
--- a test's truth as an equation, and back
-pub truth : (t : Bool) → T t → t ≡ true
-truth true x = refl
-truth false x = absurd x
-
+-- an equation as a test's truth
 pub untruth : (t : Bool) → t ≡ true → T t
 untruth true e = tt
 untruth false e = absurd (not-both e)

@@ -10,7 +10,7 @@ use native.Mathlib.Numerals.{add-one}
 use native.Mathlib.Omega.{arith}
 use lib.Dec.{T, eqb, eqb→eq}
 use lib.ListN.{length, getD, take, drop, length-append, length-drop}
-use lib.Seq.{take-at, getD-take, getD-drop, drop-drop}
+use lib.Seq.{getD-take, getD-drop, drop-drop}
 use borrow.Author.Tests.{le-leb, lt-leb}
 use borrow.Rule.Slice.PartMut.{putMid}
 use Rattle.basics.specs.Bits.{bitOf, byteBits, lowFirst}
@@ -162,7 +162,3 @@ pub part-le : (m : ℕ) (xs : List ℕ) (c n : ℕ) → c + n ≤ length xs → 
 part-le m xs c n h low k l =
     let few : k < n = rw (length-part xs c n h) at l in
     rw (the-part xs c n, getD-take n (drop c xs) k 0 few, getD-drop c xs k 0) (at-any m xs low (c + k))
-
--- the front of a buffer that was laid
-pub laid-front : (v : ℕ) (cs rest : List ℕ) → take (side v * side v) (laid v cs ++ rest) ≡ laid v cs
-laid-front v cs rest = take-at (laid v cs) rest (side v * side v) (laid-length v cs)

@@ -62,9 +62,6 @@ versions-agree m v a b (suc (suc k), x, n, s) = let h = s .which in omega arith
 -- ---- format copies
 
 module _ (m : List ℕ) (v copy : ℕ) (which : copy < 2) where
-  abbrev Here : ℕ → Type 0
-  Here bits = FormatNear (copied m (formatPlaces v copy)) (readable m (formatPlaces v copy)) bits
-
   stands-of : (bits : ℕ) → FormatNear (copied m (formatPlaces v copy)) (readable m (formatPlaces v copy)) bits → FormatStands v m copy (levelOf bits) (maskOf bits)
   stands-of bits k =
       record {

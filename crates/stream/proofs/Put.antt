@@ -36,11 +36,7 @@ module _ (out₀ : List ℕ) (at₀ : ℕ) (all : List ℕ) where
         held = rw (o, a) (with-bits-more out at (at + length xs) xs more h refl (rw (g .same) (omega arith))) ∙ ap (withBits out at) (sym e) ∙ g .held;
       }
 
-  -- all the rest put at once, or no rest left
-  pub going-last : {out : List ℕ} {at : ℕ} {rest out′ : List ℕ} {at′ : ℕ} → Going out at rest → out′ ≡ withBits out at rest → at′ ≡ at + length rest
-      → (at′ ≡ at₀ + length all) × (out′ ≡ withBits out₀ at₀ all)
-  going-last g o a = (a ∙ g .place, o ∙ g .held)
-
+  -- no rest left
   pub going-end : {out : List ℕ} {at : ℕ} {rest : List ℕ} → Going out at rest → rest ≡ [] → (at ≡ at₀ + length all) × (out ≡ withBits out₀ at₀ all)
   going-end {out} {at} {rest} g e =
       let put : withBits out at rest ≡ out = rw e (with-bits-none out at (g .small)) in

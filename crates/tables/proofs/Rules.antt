@@ -42,13 +42,6 @@ total-tested = tt
 pub total-most : (v : ℕ) → 1 ≤ v → v ≤ lastVersion → total v ≤ 346
 total-most v h k = leb→le _ _ (rule (λ v level. leb (total v) 346) total-tested v 0 (record { least = h; most = k; levels = omega arith }))
 
-checks-least-tested : T (everywhere (λ v level. leb 7 (checkCount v level)))
-unfolding checkCount checkRows
-checks-least-tested = tt
-
-pub checks-least : (v level : ℕ) → Lawful v level → 7 ≤ checkCount v level
-checks-least v level l = leb→le _ _ (rule (λ v level. leb 7 (checkCount v level)) checks-least-tested v level l)
-
 checks-most-tested : T (everywhere (λ v level. leb (checkCount v level) 30))
 unfolding checkCount checkRows
 checks-most-tested = tt
@@ -122,17 +115,6 @@ long-tested = tt
 pub long-most : (v level : ℕ) → Lawful v level → shortLength v level + 1 + checkCount v level ≤ 255
 long-most v level l = leb→le _ _ (rule (λ v level. leb (shortLength v level + 1 + checkCount v level) 255) long-tested v level l)
 
-some-short-tested : T (everywhere (λ v level. leb 1 (shortBlocks v level)))
-unfolding shortBlocks dataCount checkCount checkRows blockCount blockRows total totals
-some-short-tested = tt
-
-pub some-short : (v level : ℕ) → Lawful v level → 1 ≤ shortBlocks v level
-some-short v level l = leb→le _ _ (rule (λ v level. leb 1 (shortBlocks v level)) some-short-tested v level l)
-
-pub short-most : (v level : ℕ) → shortBlocks v level ≤ blockCount v level
-unfolding shortBlocks
-short-most v level = omega arith
-
 pub one-most : (b : Bool) → one b ≤ 1
 one-most true = omega arith
 one-most false = omega arith
@@ -144,10 +126,6 @@ block-data-least v level b l = omega (arith, short-least v level l)
 pub block-length-most : (v level b : ℕ) → Lawful v level → blockLength v level b < 256
 unfolding blockLength blockData
 block-length-most v level b l = omega (arith, long-most v level l, one-most (leb (shortBlocks v level) b))
-
-pub block-length-least : (v level b : ℕ) → checkCount v level ≤ blockLength v level b
-unfolding blockLength
-block-length-least v level b = omega arith
 
 -- where the data of a block starts
 one-short : (first b : ℕ) → b - first + one (leb first b) ≡ suc b - first
