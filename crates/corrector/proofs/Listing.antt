@@ -1,4 +1,4 @@
--- The suspected places, listed from the last to the first: what a turn of the walk adds, and the terms of the polynomial at the next locator.
+-- The suspected places, listed from the last to the first: what a turn of the walk adds, and the locators of the next 32 places.
 -- Assumes nothing.
 use mathlib.Core.Path.{_≡_, refl, sym, ap, ap₂, subst, _∙_}
 use mathlib.Core.Logic.{_≢_, by-cases}
@@ -117,7 +117,7 @@ located-turn n top xs l m e i h =
     ∙ pow-add (n - top + i) 32
     ∙ ap powN (omega arith)
 
--- the test of a place by the code is the test of the paper
+-- the test of a place by the code is that of the definition
 pub tested : (flags a : List ℕ) (j x v : ℕ) → v < 256 → x ≡ powN (length flags - suc j) → elt v ≡ eval gf256 32 (poly a) (elt x) → suspect flags a j ≡ not (eqb (getD flags j 0) 0) || eqb v 0
 unfolding suspect marked locators
 tested flags a j x v bv p e = ap (λ z. not (eqb (getD flags j 0) 0) || eqb z 0) (ap val (ap (λ y. eval gf256 32 (poly a) (elt y)) (sym p) ∙ sym e) ∙ val-elt v bv)

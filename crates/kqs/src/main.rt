@@ -7,7 +7,7 @@ ghost use Rattle.symbolfile.specs.SymbolFile.{FilePrinted};
 ghost use Rattle.kqs.specs.Loaded.{Within, fileOf};
 use libc::STDOUT_FILENO;
 
-// So many bytes of a file, or a read failed.
+// So many bytes of a file, or it cannot be opened or read.
 pub enum Loaded {
     Bytes(usize),
     Unreadable,

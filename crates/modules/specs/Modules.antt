@@ -68,7 +68,7 @@ versionOne s b = b / 3 * s + (s - 11 + b % 3)
 unfoldable pub versionTwo : (s b : ℕ) → ℕ
 versionTwo s b = (s - 11 + b % 3) * s + b / 3
 
--- the places of the two format copies, and of the two version copies, which are "drawn from version 7 on"; bit 0 first
+-- the places of the two format copies, and of the two version copies, "Drawn from version 7 on"; bit 0 first
 unfoldable pub formatPlaces : (v copy : ℕ) → List ℕ
 formatPlaces v copy = map (cond (eqb copy 0) (formatOne (side v)) (formatTwo (side v))) (upTo 15)
 

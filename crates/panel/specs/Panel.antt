@@ -17,7 +17,7 @@ abbrev pub drawnOf : Drawing → KqsDrawn
 drawnOf (writer.Drawn v m modules) = record { refusal = 0; version = v; mask = m; side = sideOf v }
 drawnOf (writer.Refused n) = record { refusal = n; version = 0; mask = 0; side = 0 }
 
--- "It writes the first s·s output bytes only"; on a refusal "output memory is unchanged"
+-- "It writes the first s·s output bytes only"; on a refusal, "Output memory is unchanged"
 pub record WriteAnswers (r : Request) (out : List ℕ) (a : KqsDrawn) (after : List ℕ) : Type 0 where
   pub answer : a ≡ drawnOf (draw r (length out))
   pub memory : after ≡ outputAfter (draw r (length out)) out

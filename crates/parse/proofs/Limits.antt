@@ -27,7 +27,7 @@ unfolding number-of lone front ends segment headWidth inRange digitsInRange pair
 group-limits = refl
 
 -- three bits end the stream, and so does mode 0; four bits of an unknown mode are 13, with no count field too; a short count field is 14;
--- a body that runs past the bits is 14, with a group out of range too; a count of 0 is whole
+-- a body that runs past the bits is 14, with a group out of range too, and a whole body with such a group is 15; a count of 0 is whole
 pub first-faults :
     (number-of (front 1 (1 ∷ 1 ∷ 1 ∷ [])) ∷ number-of (front 1 (bits 4 0 ++ bits 8 236)) ∷ number-of (front 1 (bits 4 3)) ∷
     number-of (front 1 (bits 4 1 ++ bits 9 1)) ∷ lone 1 4 10 1000 ∷ lone 1 4 14 (1000 * 16) ∷ lone 4 0 0 0 ∷ [])

@@ -1,5 +1,5 @@
 -- How many characters and segments fit so many bits: "652 digits is the most that 10-L holds; 154 empty byte segments is the longest list (9-L)".
--- Ten characters take 30 bits or more, and the segment that holds any has a head; a head is 12 bits or more (15 in version 10).
+-- Three characters take 10 bits or more, and the segment that holds any has a head; a head is 12 bits or more (15 in version 10).
 -- Assumes nothing.
 use mathlib.Core.Path.{_≡_, refl}
 use mathlib.Core.Bool.{Bool, true, false, cond}

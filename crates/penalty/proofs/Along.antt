@@ -102,11 +102,11 @@ module _ (m : List ℕ) (start stride n : ℕ) where
   met-none : (k : ℕ) → k < n → 10 ≤ n → (6 ≤ k → window-from (k - 6) ≡ 0) → met (k + 1) ≡ met k
   met-none k h l z = met-more k h l ∙ ap (λ (x : ℕ). met k + x) (nothing-met k (n - k) z) ∙ add-zero (met k)
 
-  -- modules k − j and k − i are modules 6 − j and 6 − i of the window that module k meets
+  -- module j of the window that module k meets is module k − 6 + j of the line
   in-window : (k j : ℕ) → 6 ≤ k → j ≤ 6 → getD m (start + (k - 6) * stride + j * stride) 0 ≡ module-at (k - 6 + j)
   in-window k j h l = ap (λ (p : ℕ). getD m p 0) (further (k - 6) j)
 
-  -- the last two modules are equal: module 6 is as module 5, or module 5 as module 4
+  -- no pattern: module 6 is as module 5, or module 5 as module 4, or module 6 is not dark
   alike-last : (k : ℕ) → 6 ≤ k → module-at (k - 1) ≡ module-at k → window-from (k - 6) ≡ 0
   unfolding patterns
   alike-last k h e =

@@ -25,7 +25,7 @@ pub record FormatStands (v : ℕ) (m : List ℕ) (copy level mask : ℕ) : Type 
   pub masks : mask < 8
   pub near : Near 15 (copied m (formatPlaces v copy)) (readable m (formatPlaces v copy)) (formatWord (formatBits level mask))
 
--- copy 0 or 1 of the version word, "drawn from version 7 on", stands for a version
+-- copy 0 or 1 of the version word stands for a version; "Drawn from version 7 on"
 pub record VersionStands (v : ℕ) (m : List ℕ) (copy x : ℕ) : Type 0 where
   pub which : copy < 2
   pub drawn : 7 ≤ v
@@ -120,7 +120,7 @@ Reads m payloadRoom listRoom a = First (Small payloadRoom listRoom) 16 a (First 
 
 -- ---- what memory holds then
 
--- "It writes only that many bytes and pairs"; on a refusal "output memory is unchanged, also when later segments fail"
+-- "It writes only that many bytes and pairs"; on a refusal, "Output memory is unchanged, also when later segments fail"
 abbrev pub payloadAfter : Answer → (payload : List ℕ) → List ℕ
 payloadAfter (Read v level mask payload list t e) before = payload ++ drop (length payload) before
 payloadAfter (Refused n) before = before

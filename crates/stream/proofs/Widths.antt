@@ -89,7 +89,7 @@ body-length mode chars = pick (eqb mode 1) (eqb mode 2)
     pick false true = alphanumeric-length chars
     pick false false = length-byteBits chars
 
--- "the number of those bits, from the list alone"
+-- the number of those bits, from the list alone
 pub segments-length : (v : ℕ) (list payload : List ℕ) → counts list ≤ length payload → length (segments v list payload) ≡ segmentsWidth v list
 unfolding segments segmentsWidth counts
 segments-length v [] payload h = refl

@@ -63,7 +63,7 @@ blocks-most-tested = tt
 pub blocks-most : (v level : ℕ) → Lawful v level → blockCount v level ≤ 8
 blocks-most v level l = leb→le _ _ (rule (λ v level. leb (blockCount v level) 8) blocks-most-tested v level l)
 
--- the room of a block is at most its checks
+-- the room of a block is its checks
 room-all : (v level : ℕ) → room v level ≡ checkCount v level
 unfolding room
 room-all v level = refl

@@ -57,7 +57,7 @@ centres v = getD centreRows v []
 unfoldable pub dataCount : (v level : ℕ) → ℕ
 dataCount v level = total v - checkCount v level * blockCount v level
 
--- floor(D/B), and the number of blocks that hold no more: "the first B − (D mod B) blocks"
+-- floor(D/B), and the number of blocks that hold no more: "The first B − (D mod B) blocks"
 unfoldable pub shortLength : (v level : ℕ) → ℕ
 shortLength v level = dataCount v level / blockCount v level
 

@@ -5,7 +5,7 @@ ghost use lib.ListN.{length, getD};
 ghost use Rattle.tables.specs.Tables.{Lawful, lastVersion, side as sideOf, total as totalOf, checkCount, blockCount, dataCount, shortLength, shortBlocks, blockData, blockStart, blockLength, room as roomOf, countWidth, centres, surplus as surplusOf};
 ghost use Rattle.tables.specs.Version.{Fixes};
 
-// The most that any version and level has of each: sizes of buffers.
+// The last version, and the most that any version and level has of each: sizes of buffers.
 pub const LAST_VERSION: usize = 10;
 
 pub const MOST_SIDE: usize = 57;

@@ -78,7 +78,7 @@ answered (suc n) d = Refused (suc n)
 unfoldable pub draw : Request → (out : ℕ) → Drawing
 draw r out = answered (refusal r out) (drawAt (taken (r .level) (r .version) (r .list)) r)
 
--- "It writes the first s·s output bytes only"; on a refusal "output memory is unchanged"
+-- "It writes the first s·s output bytes only"; on a refusal, "Output memory is unchanged"
 abbrev pub outputAfter : Drawing → (out : List ℕ) → List ℕ
 outputAfter (Drawn v mask modules) out = modules ++ drop (length modules) out
 outputAfter (Refused n) out = out

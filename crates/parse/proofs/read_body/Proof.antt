@@ -1,3 +1,5 @@
+-- `parse::read_body` meets its contract. The invariant: what is written and what is left make the body.
+-- Assumes nothing.
 use mathlib.Core.Path.{_≡_, _∙_}
 use Prim.Native.Nat.{_-_}
 use native.Mathlib.Omega.{arith}
@@ -14,15 +16,12 @@ Inv-loop codewords mode count payload₀ used at₀ done₀ payload at done =
 abbrev μ-loop : tie.MeasureT-loop
 μ-loop codewords mode count payload₀ used at₀ done₀ payload at done = count - done
 
--- src/lib.rt:148:5
 loop-holds : tie.Need-loop-holds Inv-loop μ-loop
 loop-holds c = along-none _ _ _ _ _ _
 
--- src/lib.rt:149:38
 sub-next-group : tie.Need-sub-next-group Inv-loop μ-loop
 sub-next-group c = omega arith
 
--- src/lib.rt:149:13
 next-group-requires : tie.Need-next-group-requires Inv-loop μ-loop
 next-group-requires c κs = search needs
 
@@ -35,11 +34,9 @@ turn-of c =
     turn _ _ _ _ _ _ _ _ _ (c .before .before .loop .inv) (c .before .before .before .before .before .pre .knows) (c .before .loop-test .taken) (c .next-group .result)
     (c .next-group .ensures)
 
--- src/lib.rt:150:13
 take-requires : tie.Need-take-requires Inv-loop μ-loop
 take-requires c κs = let t = turn-of c in (t .narrow, (omega arith, omega (arith, t .holds)))
 
--- src/lib.rt:151:13
 wide-requires : tie.Need-wide-requires Inv-loop μ-loop
 wide-requires c κs = search needs
 
@@ -48,35 +45,27 @@ value-of : (c : tie.After-wide Inv-loop μ-loop)
     → c .wide .result ≡ field (c .before .before .before .before .before .before .before .args .codewords .now) (c .before .before .before .before .loop .at) (c .before .before .next-group .result .width)
 value-of c = c .wide .ensures ∙ c .before .take .ensures .0
 
--- src/lib.rt:153:13
 same-length : tie.Need-same-length Inv-loop μ-loop
 same-length c = c .before .before .before .before .before .before .loop .inv .long
 
--- src/lib.rt:153:13
 returns : tie.Need-returns Inv-loop μ-loop
 returns c = turn-of (c .before .before .before .before) .broken (omega (arith, value-of (c .before .before), c .if1 .taken))
 
--- src/lib.rt:155:28
 add-put-group : tie.Need-add-put-group Inv-loop μ-loop
 add-put-group c = omega (arith, c .before .before .before .before .before .before .before .loop .inv .long)
 
--- src/lib.rt:155:9
 put-group-requires : tie.Need-put-group-requires Inv-loop μ-loop
 put-group-requires c κs = let t = turn-of (c .before .before .before .before .before) in (t .inside _ (c .before .if1 .left), omega (arith, t .most, c .before .before .before .before .before .before .before .loop .inv .long))
 
--- src/lib.rt:156:9
 add-at : tie.Need-add-at Inv-loop μ-loop
 add-at c = omega (arith, turn-of (c .before .before .before .before .before .before .before .before .before) .holds)
 
--- src/lib.rt:157:9
 add-done : tie.Need-add-done Inv-loop μ-loop
 add-done c = omega (arith, turn-of (c .before .before .before .before .before .before .before .before .before .before) .most)
 
--- src/lib.rt:148:5
 loop-less : tie.Need-loop-less Inv-loop μ-loop
 loop-less c = let t = turn-of (c .before .before .before .before .before .before .before .before .before .before) in omega (arith, t .least, t .most)
 
--- src/lib.rt:148:5
 loop-again : tie.Need-loop-again Inv-loop μ-loop
 loop-again c =
     let b = c .before .before .before .before in
@@ -84,11 +73,9 @@ loop-again c =
     turn-of (w .before .before) .further _ (b .put-group .kept .0) (omega (arith, value-of w, b .before .before .if1 .left))
     (rw (value-of w) at (b .put-group .ensures))
 
--- src/lib.rt:142:1
 same-length-2 : tie.Need-same-length-2 Inv-loop μ-loop
 same-length-2 c = c .before .loop .inv .long
 
--- src/lib.rt:142:1
 returns-2 : tie.Need-returns-2 Inv-loop μ-loop
 returns-2 c = along-all _ _ _ _ _ _ _ _ _ (c .before .loop .inv) (omega (arith, c .before .loop .inv .passed, c .loop-test .left))
 
