@@ -1,8 +1,10 @@
-pub mod Along
 pub mod Bound
+pub mod Counted
 pub mod Examples
 pub mod Least
 pub mod Lines
 pub mod Runs
 pub mod Squares
+pub mod Sums
+pub mod Turned
 pub mod Windows

@@ -5,12 +5,14 @@
 use mathlib.Core.Path.{_≡_, refl, sym, ap, ap₂, _∙_}
 use mathlib.Core.List.{List, _∷_, map}
 use Prim.Native.Nat.{ℕ, zero, suc, _+_, _-_, _*_, _<_, _≤_}
-use native.Mathlib.Nat.{add-zero, zero-add, suc-mul, zero-mul, mul-one, mul-le-mul-right, not-suc-le-zero, le-of-suc-le-suc}
+use native.Mathlib.Nat.{add-zero, zero-add, add-mul, suc-mul, zero-mul, mul-one, mul-le-mul-right, not-suc-le-zero, le-of-suc-le-suc}
 use native.Mathlib.Numerals.{add-one}
 use native.Mathlib.Omega.{arith}
 use lib.ListN.{length, getD, take, drop}
-use lib.Seq.{drop-cons}
+use lib.Seq.{drop-cons, ext-getD}
+use Rattle.basics.specs.Build.{build}
 use Rattle.basics.specs.Lists.{upTo, from}
+use Rattle.basics.proofs.Build.{build-length, build-get}
 use Rattle.penalty.specs.Penalty.{rows, columns}
 use Rattle.penalty.specs.Lines.{line, linesFrom}
 
@@ -35,14 +37,6 @@ line-cons m start stride (suc n) h =
     let e : n ≡ suc n - 1 = omega arith in
     ap (λ (k : ℕ). getD m start 0 ∷ line m (start + stride) stride k) e
 
-pub lines-cons : (m : List ℕ) (start step stride n k : ℕ) → 0 < k
-    → linesFrom m start step stride n k ≡ line m start stride n ∷ linesFrom m (start + step) step stride n (k - 1)
-unfolding linesFrom
-lines-cons m start step stride n zero h = absurd (not-suc-le-zero h)
-lines-cons m start step stride n (suc k) h =
-    let e : k ≡ suc k - 1 = omega arith in
-    ap (λ (j : ℕ). line m start stride n ∷ linesFrom m (start + step) step stride n j) e
-
 -- the front of a line
 pub take-line : (m : List ℕ) (start stride n k : ℕ) → k ≤ n → take k (line m start stride n) ≡ line m start stride k
 unfolding line
@@ -50,12 +44,13 @@ take-line m start stride n zero h = refl
 take-line m start stride zero (suc k) h = absurd (not-suc-le-zero h)
 take-line m start stride (suc n) (suc k) h = ap (λ (xs : List ℕ). getD m start 0 ∷ xs) (take-line m (start + stride) stride n k (le-of-suc-le-suc h))
 
--- a step fewer leaves a stride
-pub stride-less : (left stride : ℕ) → 0 < left → left * stride ≡ (left - 1) * stride + stride
-stride-less zero stride h = absurd (not-suc-le-zero h)
-stride-less (suc left) stride h =
-    let e : suc left - 1 ≡ left = omega arith in
-    rw (e, suc-mul)
+-- a module before the end of n is a stride before it
+pub reach : (k n stride : ℕ) → k < n → k * stride + stride ≤ n * stride
+reach k n stride h = rw suc-mul at (mul-le-mul-right stride h)
+
+-- rows of s modules in two parts
+pub cut : (a b n s : ℕ) → a + b ≡ n → a * s + b * s ≡ n * s
+cut a b n s e = sym (add-mul a b s) ∙ ap (λ (k : ℕ). k * s) e
 
 -- a part of the matrix is a line with stride 1
 part-line : (m : List ℕ) (start n : ℕ) → start + n ≤ length m → take n (drop start m) ≡ line m start 1 n
@@ -100,3 +95,22 @@ columns-lines s m e =
     rw (rows-lines s m e)
     (map-all m 1 s s (λ j. map (λ (l : List ℕ). getD l j 0) (linesFrom m 0 s 1 s s)) s
     (λ j h. column-line m s j h 0 s ∙ ap (λ (p : ℕ). line m p s s) (zero-add j ∙ sym (mul-one j))))
+
+-- lines of two matrices, module by module
+line-alike : (x m : List ℕ) (a b d e n : ℕ) → ((k : ℕ) → k < n → getD x (a + k * d) 0 ≡ getD m (b + k * e) 0) → line x a d n ≡ line m b e n
+line-alike x m a b d e n h =
+    ext-getD 0 _ _ (length-line x a d n ∙ sym (length-line m b e n)) (λ k l.
+    let l′ : k < n = rw length-line at l in
+    getD-line x a d n k l′ ∙ h k l′ ∙ sym (getD-line m b e n k l′))
+
+pub lines-alike : (x m : List ℕ) (step stride step′ stride′ n k : ℕ)
+    → ((i j : ℕ) → i < k → j < n → getD x (i * step + j * stride) 0 ≡ getD m (i * step′ + j * stride′) 0) → linesFrom x 0 step stride n k ≡ linesFrom m 0 step′ stride′ n k
+lines-alike x m step stride step′ stride′ n k h =
+    sym (map-all x step stride n (λ i. line x (i * step) stride n) k (λ i l. refl))
+    ∙ map-all m step′ stride′ n (λ i. line x (i * step) stride n) k (λ i l. line-alike x m (i * step) (i * step′) stride stride′ n (λ j g. h i j l g))
+
+-- a line by its modules
+pub built-line : (m : List ℕ) (start stride n : ℕ) → build (λ j. getD m (start + j * stride) 0) n ≡ line m start stride n
+built-line m start stride n =
+    ext-getD 0 _ _ (build-length _ n ∙ sym (length-line m start stride n))
+    (λ k h. let l : k < n = rw build-length at h in build-get _ n k l ∙ sym (getD-line m start stride n k l))

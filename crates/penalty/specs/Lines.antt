@@ -1,12 +1,13 @@
 -- The lines of a matrix by a start and a stride: a row has stride 1, a column the side.
 -- Assumes nothing.
-use mathlib.Core.Bool.{cond, _&&_}
+use mathlib.Core.Bool.{Bool, _&&_}
 use mathlib.Core.List.{List, [], _∷_}
-use Prim.Native.Nat.{ℕ, zero, suc, _+_, _-_, _*_}
-use lib.Dec.{leb, eqb}
+use Prim.Native.Nat.{ℕ, zero, suc, _+_, _*_}
+use lib.Dec.{eqb}
 use lib.ListN.{getD}
-use Rattle.basics.specs.Sums.{one, sum}
-use Rattle.penalty.specs.Penalty.{finderLike, run}
+use Rattle.basics.specs.Sums.{one, sum, tally}
+use Rattle.basics.specs.Lists.{each, joined}
+use Rattle.penalty.specs.Penalty.{finderLike}
 
 -- the n modules at start, start + stride, ..
 unfoldable pub line : (m : List ℕ) (start stride n : ℕ) → List ℕ
@@ -18,17 +19,21 @@ unfoldable pub linesFrom : (m : List ℕ) (start step stride n k : ℕ) → List
 linesFrom m start step stride n zero = []
 linesFrom m start step stride n (suc k) = line m start stride n ∷ linesFrom m (start + step) step stride n k
 
--- what the window at start adds
-unfoldable pub windowAt : (m : List ℕ) (start stride : ℕ) → ℕ
-windowAt m start stride = cond (finderLike (line m start stride 11)) 40 0
+-- k modules are equal, the one at `at` and those after it
+unfoldable pub alike : (m : List ℕ) (at stride k : ℕ) → Bool
+alike m at stride k = each (λ x. eqb x (getD m at 0)) (line m at stride k)
 
--- what a window adds whose module 6 is the one at `at`, where `done` modules of the line came before it and `left` are left with it
-unfoldable pub windowMet : (m : List ℕ) (at stride done left : ℕ) → ℕ
-windowMet m at stride done left = cond (leb 6 done && leb 5 left) (windowAt m (at - 6 * stride) stride) 0
+-- how many of n places from start on begin k equal modules
+unfoldable pub alikeFrom : (m : List ℕ) (start stride k n : ℕ) → ℕ
+alikeFrom m start stride k n = tally n (λ j. alike m (start + j) stride k)
 
--- what is added where a run of r modules ends before that module, x
-unfoldable pub runEnd : (m : List ℕ) (at stride done left r x : ℕ) → ℕ
-runEnd m at stride done left r x = cond (eqb r 1) (cond (eqb x 1) (windowMet m at stride done left) 0) (run r)
+-- how many of n places from start on begin a window that is a pattern
+unfoldable pub windowsFrom : (m : List ℕ) (start stride n : ℕ) → ℕ
+windowsFrom m start stride n = tally n (λ j. finderLike (line m (start + j) stride 11))
+
+-- a matrix turned: its columns, one after the other
+unfoldable pub turned : (s : ℕ) (m : List ℕ) → List ℕ
+turned s m = joined (linesFrom m 0 1 s s s)
 
 -- what a square of these four modules adds
 unfoldable pub square : (a b c d : ℕ) → ℕ

@@ -1,23 +1,18 @@
-// The penalty of a finished symbol: runs and windows of each row and column, squares, the share of dark modules.
+// The penalty of a finished symbol: runs and windows of each row and column, squares, the share of dark modules. Every place is looked at in one way, whatever
+// stands there, so that the compiler counts sixteen places at a time and a score takes as long for one symbol as for another of its side.
 ghost use mathlib.Core.Path.{_≡_};
+ghost use mathlib.Core.List.{_++_};
 ghost use Prim.Native.Nat.{_+_, _-_, _*_, _<_, _≤_};
-ghost use lib.ListN.{length};
+ghost use lib.ListN.{length, drop};
 ghost use Rattle.basics.specs.Lists.{same, AtMost};
 ghost use Rattle.penalty.specs.Penalty as paper;
-ghost use Rattle.penalty.specs.Lines.{line, linesFrom, windowAt, windowMet, runEnd, square, squaresFrom};
+ghost use Rattle.penalty.specs.Lines.{line, linesFrom, alike, alikeFrom, windowsFrom, turned, square, squaresFrom};
 
 // The finder-like patterns, 10111010000 and 00001011101.
 const PATTERNS: [[u8; 11]; 2] = [
     [1, 0, 1, 1, 1, 0, 1, 0, 0, 0, 0],
     [0, 0, 0, 0, 1, 0, 1, 1, 1, 0, 1],
 ];
-
-// What a longest run of r equal modules adds.
-fn run_score(r: u32) -> u32
-    ensures { λ s. ⌜ s ≡ paper.run r ⌝ }
-{
-    if 5 <= r { r - 2 } else { 0 }
-}
 
 // Whether two windows are equal.
 fn equal(w: [u8; 11], p: [u8; 11]) -> bool
@@ -60,93 +55,120 @@ fn window(m: &[u8], start: usize, stride: usize) -> [u8; 11]
     w
 }
 
-// What the window at start adds. In both patterns modules 1 and 9 are light, and one of modules 3 and 7 is dark: a window that differs there is neither.
-fn window_score(m: &[u8], start: usize, stride: usize) -> u32
-    requires { ⌜ (stride ≤ 64) × (start + 10 * stride < length (now m)) ⌝ }
-    ensures { λ r. ⌜ r ≡ windowAt (now (m .entry)) start stride ⌝ }
+// How many of n places from start on, few enough for a byte, begin a window that is a pattern.
+fn windows_among(m: &[u8], start: usize, stride: usize, n: usize) -> u8
+    requires { ⌜ (stride ≤ 64) × ((n ≤ 64) × (start + n + 10 * stride ≤ length (now m))) ⌝ }
+    ensures { λ r. ⌜ r ≡ windowsFrom (now (m .entry)) start stride n ⌝ }
 {
-    if m[start + 9 * stride] != 0 {
-        return 0;
-    }
-    if m[start + stride] != 0 {
-        return 0;
-    }
-    if m[start + 3 * stride] == m[start + 7 * stride] {
-        return 0;
-    }
-    if finder_like(window(m, start, stride)) {
-        return 40;
-    }
-    0
-}
-
-// What a window adds whose module 6 is at `at`: `done` modules of the line came before it, and `left` are left with it.
-fn window_met(m: &[u8], at: usize, stride: usize, done: usize, left: usize) -> u32
-    requires { ⌜ (stride ≤ 64) × ((done * stride ≤ at) × (at + left * stride < length (now m) + stride)) ⌝ }
-    ensures { λ r. ⌜ r ≡ windowMet (now (m .entry)) at stride done left ⌝ }
-{
-    if done < 6 {
-        return 0;
-    }
-    if left < 5 {
-        return 0;
-    }
-    window_score(m, at - 6 * stride, stride)
-}
-
-// What is added where a run of r modules ends before module x. In both patterns module 6 is dark after one light module.
-fn run_end(m: &[u8], at: usize, stride: usize, done: usize, left: usize, r: u32, x: u8) -> u32
-    requires { ⌜ (stride ≤ 64) × ((done * stride ≤ at) × (at + left * stride < length (now m) + stride)) ⌝ }
-    ensures { λ s. ⌜ s ≡ runEnd (now (m .entry)) at stride done left r x ⌝ }
-{
-    if r == 1 {
-        if x == 1 {
-            return window_met(m, at, stride, done, left);
+    let mut count: u8 = 0;
+    let mut i: usize = 0;
+    while i < n {
+        if finder_like(window(m, start + i, stride)) {
+            count += 1;
         }
-        return 0;
+        i += 1;
     }
-    run_score(r)
+    count
 }
 
-// What a line adds by its runs and its windows.
-fn line_score(m: &[u8], start: usize, stride: usize, n: usize) -> u32
-    requires { ⌜ (stride ≤ 64) × ((10 ≤ n) × ((n ≤ 64) × (start + n * stride < length (now m) + stride))) ⌝ }
-    ensures { λ r. ⌜ r ≡ paper.runs (line (now (m .entry)) start stride n) + paper.windows (line (now (m .entry)) start stride n) ⌝ }
+// How many places begin a window of a column that is a pattern.
+fn windows_down(m: &[u8], s: usize) -> u32
+    requires { ⌜ (10 ≤ s) × ((s ≤ 64) × (s * s ≤ length (now m))) ⌝ }
+    ensures { λ r. ⌜ r ≡ windowsFrom (now (m .entry)) 0 s ((s - 10) * s) ⌝ }
 {
-    let mut score: u32 = 0;
-    let mut colour = m[start];
-    let mut run: u32 = 1;
-    let mut at = start + stride;
-    let mut left = n - 1;
-    while 0 < left {
-        let x = m[at];
-        if x == colour {
-            run += 1;
-        } else {
-            score += run_end(m, at, stride, n - left, left, run, x);
-            colour = x;
-            run = 1;
+    let mut count: u32 = 0;
+    let mut at: usize = 0;
+    let mut left = (s - 10) * s;
+    while 64 <= left {
+        count += windows_among(m, at, s, 64) as u32;
+        at += 64;
+        left -= 64;
+    }
+    count + windows_among(m, at, s, left) as u32
+}
+
+// Whether k modules are equal, the one at `at` and those after it.
+fn equal_run(m: &[u8], at: usize, stride: usize, k: usize) -> bool
+    requires { ⌜ (stride ≤ 64) × ((1 ≤ k) × ((k ≤ 64) × (at + k * stride < length (now m) + stride))) ⌝ }
+    ensures { λ r. ⌜ r ≡ alike (now (m .entry)) at stride k ⌝ }
+{
+    let mut same = true;
+    let mut i: usize = 1;
+    while i < k {
+        if m[at + i * stride] != m[at] {
+            same = false;
         }
-        at += stride;
-        left -= 1;
+        i += 1;
     }
-    score + run_score(run)
+    same
 }
 
-// What n lines of n modules add, which start at 0, step, 2·step, ..
-fn lines_score(m: &[u8], step: usize, stride: usize, n: usize) -> u32
-    requires { ⌜ (stride ≤ 64) × ((step ≤ 64) × ((10 ≤ n) × ((n ≤ 64) × (n * step + n * stride < length (now m) + stride + step)))) ⌝ }
-    ensures { λ r. ⌜ r ≡ paper.lines (linesFrom (now (m .entry)) 0 step stride n n) ⌝ }
+// How many of n places from start on, few enough for a byte, begin k equal modules.
+fn runs_among(m: &[u8], start: usize, stride: usize, k: usize, n: usize) -> u8
+    requires { ⌜ (stride ≤ 64) × ((1 ≤ k) × ((k ≤ 64) × ((n ≤ 64) × (start + n + k * stride ≤ length (now m) + stride)))) ⌝ }
+    ensures { λ r. ⌜ r ≡ alikeFrom (now (m .entry)) start stride k n ⌝ }
 {
-    let mut score: u32 = 0;
-    let mut start: usize = 0;
-    let mut left = n;
-    while 0 < left {
-        score += line_score(m, start, stride, n);
-        start += step;
-        left -= 1;
+    let mut count: u8 = 0;
+    let mut i: usize = 0;
+    while i < n {
+        if equal_run(m, start + i, stride, k) {
+            count += 1;
+        }
+        i += 1;
     }
-    score
+    count
+}
+
+// How many places begin k equal modules of a column.
+fn runs_down(m: &[u8], s: usize, k: usize) -> u32
+    requires { ⌜ (1 ≤ k) × ((k ≤ s) × ((s ≤ 64) × (s * s ≤ length (now m)))) ⌝ }
+    ensures { λ r. ⌜ r ≡ alikeFrom (now (m .entry)) 0 s k ((s + 1 - k) * s) ⌝ }
+{
+    let mut count: u32 = 0;
+    let mut at: usize = 0;
+    let mut left = (s + 1 - k) * s;
+    while 64 <= left {
+        count += runs_among(m, at, s, k, 64) as u32;
+        at += 64;
+        left -= 64;
+    }
+    count + runs_among(m, at, s, k, left) as u32
+}
+
+// What the columns add by their runs and their windows. In a run of r ≥ 5 modules r - 4 begin five equal ones and r - 5 begin six, and 3(r - 4) - 2(r - 5) is r - 2.
+fn columns_score(m: &[u8], s: usize) -> u32
+    requires { ⌜ (11 ≤ s) × ((s ≤ 57) × (s * s ≤ length (now m))) ⌝ }
+    ensures { λ r. ⌜ r ≡ paper.lines (linesFrom (now (m .entry)) 0 1 s s s) ⌝ }
+{
+    let fives = runs_down(m, s, 5);
+    let sixes = runs_down(m, s, 6);
+    3 * fives - 2 * sixes + 40 * windows_down(m, s)
+}
+
+// Copies a line.
+fn copy_line(m: &[u8], start: usize, stride: usize, out: &mut [u8])
+    requires { ⌜ (stride ≤ 64) × ((length (now out) ≤ 64) × (start + length (now out) * stride < length (now m) + stride)) ⌝ }
+    ensures { λ _. ⌜ now (out .exit) ≡ line (now (m .entry)) start stride (length (now (out .entry))) ⌝ }
+{
+    let mut k: usize = 0;
+    while k < out.len() {
+        out[k] = m[start + k * stride];
+        k += 1;
+    }
+}
+
+// Turns a matrix: its columns are the rows of what is written.
+fn turn(m: &[u8], s: usize, out: &mut [u8])
+    requires { ⌜ (s ≤ 64) × ((s * s ≤ length (now m)) × (s * s ≤ length (now out))) ⌝ }
+    ensures { λ _. ⌜ now (out .exit) ≡ turned s (now (m .entry)) ++ drop (s * s) (now (out .entry)) ⌝ }
+{
+    let mut i: usize = 0;
+    while i < s {
+        let a = i * s;
+        let e = a + s;
+        copy_line(m, i, s, &mut out[a..e]);
+        i += 1;
+    }
 }
 
 // What a square of four modules adds.
@@ -224,8 +246,10 @@ pub fn score(m: &[u8], s: usize) -> u32
     requires { ⌜ (11 ≤ s) × ((s ≤ 57) × ((length (now m) ≡ s * s) × AtMost 1 (now m))) ⌝ }
     ensures { λ r. ⌜ r ≡ paper.score s (now (m .entry)) ⌝ }
 {
-    let rows = lines_score(m, s, 1, s);
-    let columns = lines_score(m, 1, s, s);
+    let mut turned = [0u8; 3249];
+    turn(m, s, &mut turned);
+    let rows = columns_score(&turned, s);
+    let columns = columns_score(m, s);
     let squares = squares_score(m, s);
     rows + columns + squares + share_score(s as u32, dark(m))
 }

@@ -1,12 +1,15 @@
 -- `penalty::score` meets its contract: its parts are those of the definition, and their bounds keep the sum in range.
 -- Assumes nothing.
 use mathlib.Core.Path.{sym, ap, ap₂, _∙_}
+use mathlib.Core.List.{List}
 use Prim.Native.Nat.{ℕ, _+_, _*_, _-_, _≤_}
 use native.Mathlib.Nat.{mul-le-mul}
 use native.Mathlib.Omega.{arith}
 use Rattle.penalty.specs.Penalty.{score, lines, share}
+use Rattle.penalty.specs.Lines.{linesFrom}
 use Rattle.penalty.proofs.Bound.{lines-small, squares-small, dark-le, share-le}
 use Rattle.penalty.proofs.Lines.{rows-lines, columns-lines}
+use Rattle.penalty.proofs.Turned.{turned-lines, turned-long}
 use borrow.Author.Needs.{needs}
 use Rattle.penalty.proofs.score.Statement.{statement}
 use Rattle.penalty.proofs.score.Tie as tie
@@ -14,24 +17,32 @@ use Rattle.penalty.proofs.score.Tie as tie
 area : (s : ℕ) → s ≤ 57 → s * s ≤ 3249
 area s h = mul-le-mul h h
 
-parts : (c : tie.After-squares-score) → (c .before .before .lines-score .result ≤ 110295) × ((c .before .lines-score2 .result ≤ 110295) × (c .squares-score .result ≤ 9408))
+parts : (c : tie.After-squares-score) → (c .before .before .columns-score .result ≤ 110295) × ((c .before .columns-score2 .result ≤ 110295) × (c .squares-score .result ≤ 9408))
 parts c =
-    let a = c .before .before .before .before .args in
-    let h : a .s ≤ 57 = omega arith in (
-      rw (c .before .before .lines-score .ensures) (lines-small _ _ _ _ _ h),
-      (rw (c .before .lines-score2 .ensures) (lines-small _ _ _ _ _ h), rw (c .squares-score .ensures) (squares-small _ _ h)),
+    let h : c .before .before .before .before .before .before .before .before .args .s ≤ 57 = omega arith in (
+      rw (c .before .before .columns-score .ensures) (lines-small _ _ _ _ _ h),
+      (rw (c .before .columns-score2 .ensures) (lines-small _ _ _ _ _ h), rw (c .squares-score .ensures) (squares-small _ _ h)),
     )
 
-count : (c : tie.After-dark) → c .dark .result ≤ c .before .before .before .before .before .args .s * c .before .before .before .before .before .args .s
+count : (c : tie.After-dark) → c .dark .result ≤ c .before .before .before .before .before .before .before .before .before .args .s * c .before .before .before .before .before .before .before .before .before .args .s
 count c =
-    let p = c .before .before .before .before .before .pre in
-    rw (c .dark .ensures) (omega (arith, dark-le (c .before .before .before .before .before .args .m .now), p .1 .1 .0))
+    let p = c .before .before .before .before .before .before .before .before .before .pre in
+    rw (c .dark .ensures) (omega (arith, dark-le (c .before .before .before .before .before .before .before .before .before .args .m .now), p .1 .1 .0))
 
-lines-score-requires : tie.Need-lines-score-requires
-lines-score-requires c κs = search needs
+slice-aggregate-turn : tie.Need-slice-aggregate-turn
+slice-aggregate-turn c = search needs
 
-lines-score-requires-2 : tie.Need-lines-score-requires-2
-lines-score-requires-2 c κs = search needs
+turn-requires : tie.Need-turn-requires
+turn-requires c κs = omega (arith, area (c .before .before .args .s) (omega arith), c .before .before .pre .1 .1 .0)
+
+slice-aggregate-columns-score : tie.Need-slice-aggregate-columns-score
+slice-aggregate-columns-score c = search needs
+
+columns-score-requires : tie.Need-columns-score-requires
+columns-score-requires c κs = (omega arith, (omega arith, rw (c .before .before .turn .ensures) (turned-long _ _ _)))
+
+columns-score-requires-2 : tie.Need-columns-score-requires-2
+columns-score-requires-2 c κs = search needs
 
 squares-score-requires : tie.Need-squares-score-requires
 squares-score-requires c κs = search needs
@@ -46,32 +57,40 @@ cast-share-score : tie.Need-cast-share-score
 cast-share-score c = search needs
 
 dark-requires : tie.Need-dark-requires
-dark-requires c κs = (omega (arith, area (c .before .before .before .before .args .s) (omega arith)), c .before .before .before .before .pre .1 .1 .1)
+dark-requires c κs = (omega (arith, area (c .before .before .before .before .before .before .before .before .args .s) (omega arith)), c .before .before .before .before .before .before .before .before .pre .1 .1 .1)
 
 share-score-requires : tie.Need-share-score-requires
-share-score-requires c κs = omega (arith, count c, area (c .before .before .before .before .before .args .s) (omega arith))
+share-score-requires c κs = omega (arith, count c, area (c .before .before .before .before .before .before .before .before .before .args .s) (omega arith))
 
 add-result-3 : tie.Need-add-result-3
-add-result-3 c = omega (arith, parts (c .before .before), c .share-score .ensures, share-le (c .before .before .before .before .before .before .args .s) (c .before .dark .result) (count (c .before)))
+add-result-3 c = omega (arith, parts (c .before .before), c .share-score .ensures, share-le (c .before .before .before .before .before .before .before .before .before .before .args .s) (c .before .dark .result) (count (c .before)))
 
 returns : tie.Need-returns
 unfolding score
 returns c =
-    let a = c .before .before .before .before .before .before .args in
-    let e = c .before .before .before .before .before .before .pre .1 .1 .0 in
+    let start = c .before .before .before .before .before .before .before .before .before .before in
+    let s = start .args .s in
+    let m = start .args .m .now in
+    let e = start .pre .1 .1 .0 in
     ap₂ _+_
     (ap₂ _+_
-    (ap₂ _+_ (c .before .before .before .before .lines-score .ensures ∙ ap lines (sym (rows-lines (a .s) (a .m .now) e)))
-    (c .before .before .before .lines-score2 .ensures ∙ ap lines (sym (columns-lines (a .s) (a .m .now) e))))
+    (ap₂ _+_
+    (c .before .before .before .before .columns-score .ensures
+    ∙ ap (λ (xs : List ℕ). lines (linesFrom xs 0 1 s s s)) (c .before .before .before .before .before .before .before .turn .ensures)
+    ∙ ap lines (turned-lines m _ s ∙ sym (rows-lines s m e)))
+    (c .before .before .before .columns-score2 .ensures ∙ ap lines (sym (columns-lines s m e))))
     (c .before .before .squares-score .ensures))
-    (c .share-score .ensures ∙ ap (share (a .s)) (c .before .dark .ensures))
+    (c .share-score .ensures ∙ ap (share s) (c .before .dark .ensures))
 
 pub score-spec : {M : Type 1} → statement M
 score-spec =
     tie.close
     (tie.spec
-    lines-score-requires
-    lines-score-requires-2
+    slice-aggregate-turn
+    turn-requires
+    slice-aggregate-columns-score
+    columns-score-requires
+    columns-score-requires-2
     squares-score-requires
     add-result
     add-result-2

@@ -1,27 +1,19 @@
 -- `penalty::window` meets its contract. The invariant: the first k entries are built.
 -- Assumes nothing.
-use mathlib.Core.Path.{_≡_, refl, sym, _∙_}
-use mathlib.Core.List.{List}
+use mathlib.Core.Path.{_≡_, refl, _∙_}
 use Prim.Native.Nat.{ℕ, _+_, _*_, _-_, _≤_, _<_}
 use native.Mathlib.Nat.{mul-le-mul-right, le-antisymm}
 use native.Mathlib.Omega.{arith}
 use lib.ListN.{length, take, getD, length-set}
-use lib.Seq.{ext-getD}
 use Rattle.basics.specs.Build.{build}
-use Rattle.basics.proofs.Build.{build-more, build-all, build-length, build-get}
-use Rattle.penalty.specs.Lines.{line}
-use Rattle.penalty.proofs.Lines.{length-line, getD-line}
+use Rattle.basics.proofs.Build.{build-more, build-all}
+use Rattle.penalty.proofs.Lines.{built-line}
 use Rattle.penalty.proofs.window.Statement.{statement}
 use Rattle.penalty.proofs.window.Tie as tie
 
 -- the k-th module is no further on than the last
 reach : (k stride : ℕ) → k < 11 → k * stride ≤ 10 * stride
 reach k stride h = mul-le-mul-right stride (omega arith)
-
-built-line : (m : List ℕ) (start stride n : ℕ) → build (λ j. getD m (start + j * stride) 0) n ≡ line m start stride n
-built-line m start stride n =
-    ext-getD 0 _ _ (build-length _ n ∙ sym (length-line m start stride n))
-    (λ k h. let l : k < n = rw build-length at h in build-get _ n k l ∙ sym (getD-line m start stride n k l))
 
 abbrev Inv-loop : tie.InvT-loop
 Inv-loop m start stride w₀ k₀ w k = (k ≤ 11) × ((length w ≡ 11) × (take k w ≡ build (λ j. getD m (start + j * stride) 0) k))
