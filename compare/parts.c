@@ -1,5 +1,6 @@
 /* One call of one part, to be counted, and the stack that it needs, by painting. usage: parts-of syndromes|correct LENGTH CHECKS WRONG UNREADABLE, or
- * parts-of lay|finish|score MASK KIND: of version 10, level L; KIND 0 has every codeword 0. */
+ * parts-of lay|finish|score MASK KIND: of version 10, level L; KIND 0 has every codeword 0. KIND 2 and 3 score a matrix that is no symbol: every module light, or
+ * rows and columns that repeat 10111010000. */
 #include <stddef.h>
 #include <stdint.h>
 #include <stdio.h>
@@ -60,9 +61,11 @@ int main(int argc, char **argv) {
     paint();
     finish(a[0]);
     if (!strcmp(argv[1], "finish")) stack = painted();
+    for (size_t k = 0; a[1] > 1 && k < sizeof out; k++) out[k] = a[1] == 2 ? 0 : "\1\0\1\1\1\0\1\0\0\0"[(k / 57 + k % 57) % 11];
     paint();
     score();
     if (!strcmp(argv[1], "score")) stack = painted();
-    printf("| %s: version 10, mask %zu, %s | COUNT | %zu |\n", argv[1], a[0], a[1] ? "codewords of all kinds" : "codewords all 0", stack);
+    static const char *kinds[] = {"codewords all 0", "codewords of all kinds", "but every module light", "but 10111010000 again and again"};
+    printf("| %s: version 10, mask %zu, %s | COUNT | %zu |\n", argv[1], a[0], kinds[a[1] & 3], stack);
     return !stack;
 }
