@@ -351,7 +351,7 @@ fn writing(r: &mut Run, count: usize) {
             list.push(extra);
         }
         if r.rng.below(5) == 0 && !list.is_empty() {
-            let k = r.rng.below(list.len().div_ceil(2)) * 2;
+            let k = r.rng.below((list.len() + 1) / 2) * 2;
             list[k] = r.rng.pick(&[0u16, 3, 5, 7, 8, 257, 65535]);
         }
         if r.rng.below(5) == 0 && list.len() > 1 {

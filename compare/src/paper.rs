@@ -144,7 +144,7 @@ impl Field {
         let mut at = 0;
         let mut leads = Vec::new();
         for column in 0..unknowns {
-            let Some(found) = (at..rows.len()).find(|&r| rows[r][column] != 0) else { continue };
+            let found = match (at..rows.len()).find(|&r| rows[r][column] != 0) { Some(r) => r, None => continue };
             rows.swap(at, found);
             let scale = self.inverse[rows[at][column] as usize];
             for x in rows[at].iter_mut() {
@@ -190,7 +190,7 @@ impl Field {
         let m = left.len();
         for t in 0..=(room - e) / 2 {
             let rows: Vec<Vec<u8>> = (0..m - t).map(|i| (0..=t).map(|k| left[i + k]).collect()).collect();
-            let Some(mut recurrence) = self.solve(rows, t) else { continue };
+            let mut recurrence = match self.solve(rows, t) { Some(r) => r, None => continue };
             recurrence.push(1);
             let at: Vec<usize> = (0..size)
                 .filter(|&j| {
@@ -615,7 +615,7 @@ pub fn write(field: &Field, payload: &[u8], list: &[u16], level: u32, version: u
     }
     let level = level as usize;
     let fitting = (1..=10).find(|&v| (version == 0 || v == version as usize) && fits(v, level, list, q));
-    let Some(v) = fitting else { return no_drawing(5) };
+    let v = match fitting { Some(v) => v, None => return no_drawing(5) };
     let s = side(v);
     if out.len() < s * s {
         return no_drawing(6);
@@ -687,7 +687,7 @@ pub fn read(field: &Field, m: &[u8], payload: &mut [u8], list: &mut [u16], q: &Q
     if payload.len() < 652 || list.len() < 308 {
         return no_reading(16);
     }
-    let Some(v) = (1..=10).find(|&v| side(v) * side(v) == m.len()) else { return no_reading(7) };
+    let v = match (1..=10).find(|&v| side(v) * side(v) == m.len()) { Some(v) => v, None => return no_reading(7) };
     if m.iter().any(|&x| x > 2) {
         return no_reading(8);
     }
@@ -695,7 +695,7 @@ pub fn read(field: &Field, m: &[u8], payload: &mut [u8], list: &mut [u16], q: &Q
     if v >= 7 && !q.other_version_ignored {
         let words: Vec<u32> = (7..=40).map(version_word).collect();
         for copy in 0..2 {
-            if copy_stands(m, s, &version_places(s, copy), &words).is_some_and(|k| k + 7 != v) {
+            if copy_stands(m, s, &version_places(s, copy), &words).map_or(false, |k| k + 7 != v) {
                 return no_reading(9);
             }
         }
@@ -728,7 +728,7 @@ pub fn read(field: &Field, m: &[u8], payload: &mut [u8], list: &mut [u16], q: &Q
             data.extend_from_slice(&word[..sizes[b]]);
             continue;
         }
-        let Some((c, dt, de)) = field.stands(&word, &lost, n, room) else { return no_reading(12) };
+        let (c, dt, de) = match field.stands(&word, &lost, n, room) { Some(found) => found, None => return no_reading(12) };
         t += dt;
         e += de;
         data.extend_from_slice(&c[..sizes[b]]);

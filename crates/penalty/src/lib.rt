@@ -135,7 +135,8 @@ fn runs_down(m: &[u8], s: usize, k: usize) -> u32
     count + runs_among(m, at, s, k, left) as u32
 }
 
-// What the columns add by their runs and their windows. In a run of r ≥ 5 modules r - 4 begin five equal ones and r - 5 begin six, and 3(r - 4) - 2(r - 5) is r - 2.
+// What the columns add by their runs and their windows. Of a run of r ≥ 5 modules r - 4 begin five equal ones and r - 5 begin six, and
+// 3(r - 4) - 2(r - 5) is r - 2.
 fn columns_score(m: &[u8], s: usize) -> u32
     requires { ⌜ (11 ≤ s) × ((s ≤ 57) × (s * s ≤ length (now m))) ⌝ }
     ensures { λ r. ⌜ r ≡ paper.lines (linesFrom (now (m .entry)) 0 1 s s s) ⌝ }
