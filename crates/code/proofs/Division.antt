@@ -1,6 +1,5 @@
 -- The division by the generator, one data codeword at a time: what is left of the data, with the remainder so far added to its front, is what the
 -- definition still has to divide. Lists are compared entry by entry, so that a remainder may carry zeros behind its n coefficients.
--- Assumes nothing.
 use mathlib.Core.Path.{_≡_, refl, sym, ap, ap₂, _∙_}
 use mathlib.Core.Logic.{by-cases}
 use mathlib.Core.List.{List, [], _∷_, _++_, map}

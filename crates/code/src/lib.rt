@@ -134,7 +134,7 @@ fn values(word: &[u8]) -> [u8; LANES]
 // The n syndromes of the word, and zeros behind them.
 pub fn syndromes(word: &[u8], n: usize) -> [u8; LANES]
     requires { ⌜ n ≤ lanes ⌝ }
-    ensures { λ r. ⌜ r ≡ syndromesOf n (now (word .entry)) ⌝ }
+    ensures { λ r. ⌜ r ≡ padded lanes (syndromesOf n (now (word .entry))) ⌝ }
 {
     let all = values(word);
     let mut r: [u8; LANES] = [0; LANES];

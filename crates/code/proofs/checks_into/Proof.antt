@@ -1,5 +1,4 @@
 -- `code::checks_into` meets its contract: the loop copies the remainder, one place a turn.
--- Assumes nothing.
 use mathlib.Core.Path.{_≡_, _∙_}
 use Prim.Native.Nat.{_-_, _≤_}
 use native.Mathlib.Omega.{arith}

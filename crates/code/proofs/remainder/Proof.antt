@@ -1,5 +1,4 @@
 -- `code::remainder` meets its contract: after i turns what is left to divide is the data from the i-th on, with the remainder added to its front.
--- Assumes nothing.
 use mathlib.Core.Path.{_≡_, refl, sym, _∙_}
 use Prim.Native.Nat.{_-_, _≤_}
 use native.Mathlib.Omega.{arith}
