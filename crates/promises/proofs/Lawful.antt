@@ -60,7 +60,7 @@ reads-lawful m payloadRoom listRoom v level mask t e payload list reads =
     record {
       lawful = subst₂ Tables.Lawful (sym (g .0)) (sym (g .1)) lawful;
       masks = subst (λ (k : ℕ). k < 8) (sym (g .2)) (f .stands .masks);
-      message = subst₂ (λ (v level : ℕ). LawfulMessage v level payload list) (sym (g .0)) (sym (g .1)) (parsed-lawful (p .version) (f .level) _ payload list long (g .5));
+      message = subst₂ (λ (v level : ℕ). LawfulMessage v level payload list) (sym (g .0)) (sym (g .1)) (parsed-lawful (p .version) (f .level) _ payload list lawful long (g .5));
       payload-most = room .0;
       list-most = room .1;
       differing-most = subst (λ (t : ℕ). t ≤ 240) (sym (g .3)) (sum-most _ (d .ts) (blocks-most _ _ lawful) (λ b h. few b h .0));
