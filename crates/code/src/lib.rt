@@ -59,8 +59,8 @@ fn reduce(r: [u8; COEFFICIENTS], g: [u8; COEFFICIENTS], d: u8) -> [u8; COEFFICIE
     s
 }
 
-// The remainder of the data times x^n, n coefficients from the front.
-fn remainder(held: &[u8], n: usize) -> [u8; COEFFICIENTS]
+// The remainder of the data times x^n: its n checks stand in front.
+pub fn remainder(held: &[u8], n: usize) -> [u8; COEFFICIENTS]
     requires { ⌜ n ≤ 30 ⌝ }
     ensures { λ r. ⌜ take n r ≡ checks n (now (held .entry)) ⌝ }
 {
