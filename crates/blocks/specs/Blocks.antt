@@ -1,6 +1,6 @@
 -- The cut into blocks, and the order in which their codewords are sent.
 -- Assumes nothing.
-use mathlib.Core.Bool.{true, cond}
+use mathlib.Core.Bool.{cond}
 use mathlib.Core.List.{List, [], _++_, map}
 use Prim.Native.Nat.{ℕ, _+_, _-_, _*_}
 use lib.Dec.{ltb, leb}
@@ -57,7 +57,7 @@ sentPlace v level b p = placeBy (dataCount v level) (blockCount v level) (shortL
 
 -- a list with codewords put at their places
 unfoldable pub dealt : (place : ℕ → ℕ) (codewords out : List ℕ) → List ℕ
-dealt place codewords out = walked place (λ k. true) (λ k. getD codewords k 0) (length codewords) out
+dealt place codewords out = walked place (λ k. getD codewords k 0) (length codewords) out
 
 -- ---- and back: what was received, by its place in the sent order, cut into blocks again
 

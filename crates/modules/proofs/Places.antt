@@ -1,35 +1,13 @@
--- Stores, one a turn: one turn more, the length that stays, and places that lie in the matrix.
--- Assumes nothing.
-use mathlib.Core.Path.{_≡_, refl, sym, ap, _∙_}
-use mathlib.Core.List.{List}
-use Prim.Native.Nat.{ℕ, zero, suc, _+_, _-_, _*_, _/_, _≤_, _<_}
+-- Places that lie in the matrix, and the words' places from the side as the code has it.
+use mathlib.Core.Path.{_≡_, sym, _∙_}
+use Prim.Native.Nat.{ℕ, suc, _+_, _-_, _*_, _/_, _≤_, _<_}
 use native.Mathlib.Nat.{le-trans, mul-le-mul-right, suc-mul, div-lt-iff-lt-mul}
-use native.Mathlib.Numerals.{add-one}
 use native.Mathlib.Omega.{arith}
-use lib.ListN.{length, getD, set, length-set}
+use lib.ListN.{getD}
 use Rattle.basics.proofs.Lists.{getD-map-upTo}
 use Rattle.tables.specs.Tables.{side}
 use borrow.Author.Tests.{le-leb}
 use Rattle.modules.specs.Modules.{formatOne, formatTwo, formatPlaces, versionOne, versionTwo, versionPlaces}
-use Rattle.modules.specs.Kinds.{stamped}
-
-pub stamped-none : (place value : ℕ → ℕ) (out : List ℕ) → out ≡ stamped place value 0 out
-unfolding stamped
-stamped-none place value out = refl
-
-pub stamped-more : (place value : ℕ → ℕ) (out₀ out : List ℕ) (t p x : ℕ) → out ≡ stamped place value t out₀ → p ≡ place t → x ≡ value t
-    → set out p x ≡ stamped place value (t + 1) out₀
-unfolding stamped
-stamped-more place value out₀ out t p x e hp hx = rw (e, hp, hx, add-one)
-
-pub stamped-length : (place value : ℕ → ℕ) (n : ℕ) (out : List ℕ) → length (stamped place value n out) ≡ length out
-unfolding stamped
-stamped-length place value zero out = refl
-stamped-length place value (suc n) out = length-set (stamped place value n out) (place n) (value n) ∙ stamped-length place value n out
-
--- a list that n stores made has the length of the first
-pub made-length : (place value : ℕ → ℕ) (n : ℕ) (out₀ out : List ℕ) → out ≡ stamped place value n out₀ → length out ≡ length out₀
-made-length place value n out₀ out e = ap length e ∙ stamped-length place value n out₀
 
 pub square-small : (s : ℕ) → s ≤ 57 → s * s ≤ 3249
 square-small s h = le-trans (mul-le-mul-right s h) (omega arith)
