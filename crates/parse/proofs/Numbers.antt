@@ -1,5 +1,4 @@
 -- A fault of the stream is 13, 14 or 15.
--- Assumes nothing.
 use mathlib.Core.Path.{_≡_, refl, sym, ap, _∙_}
 use mathlib.Core.Bool.{Bool, true, false, cond}
 use mathlib.Core.List.{List}
@@ -10,7 +9,7 @@ use lib.ListN.{length, take, drop}
 use Rattle.basics.specs.Bits.{byteBits, number}
 use Rattle.tables.specs.Tables.{countWidth}
 use Rattle.stream.specs.Stream.{known, bodyWidth}
-use Rattle.parse.specs.Parse.{Front, End, Segment, Refusal, demand, inRange, headWidth, segment, ends, front, Parsed, Message, Fault, inFront, parse, message}
+use Rattle.parse.specs.Parse.{Front, End, Segment, Refusal, demand, groupsInRange, headWidth, segment, ends, front, Parsed, Message, Fault, inFront, parse, message}
 use Rattle.parse.proofs.Front.{parse-segment, parse-refusal, parse-end}
 
 abbrev pub InStream : ℕ → Type 0
@@ -36,7 +35,7 @@ unfolding front segment
 front-number v k bs e =
     let m : ℕ = number (take 4 bs) in
     let n : ℕ = number (take (countWidth v m) (drop 4 bs)) in
-    demanded (known m) (leb (headWidth v m) (length bs)) (leb (headWidth v m + bodyWidth m n) (length bs)) (inRange m n (drop (headWidth v m) bs)) m n k
+    demanded (known m) (leb (headWidth v m) (length bs)) (leb (headWidth v m + bodyWidth m n) (length bs)) (groupsInRange m n (drop (headWidth v m) bs)) m n k
     (not-end (ends bs) (segment v m n bs) e)
 
 no-fault : (p l : List ℕ) (k : ℕ) → Message p l ≡ Fault k → ⊥
