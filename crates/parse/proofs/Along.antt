@@ -36,7 +36,7 @@ same-each true b x = refl
 same-each false true x = refl
 same-each false false x = refl
 
-none-ranges : (mode : ℕ) (bs : List ℕ) → groupsInRange mode 0 bs ≡ true
+pub none-ranges : (mode : ℕ) (bs : List ℕ) → groupsInRange mode 0 bs ≡ true
 unfolding groupsInRange digitsInRange pairsInRange
 none-ranges mode bs = same-each (eqb mode 1) (eqb mode 2) true
 

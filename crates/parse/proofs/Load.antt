@@ -48,7 +48,7 @@ left-over (suc zero) h = omega arith
 left-over (suc (suc zero)) h = omega arith
 left-over (suc (suc (suc r))) h = absurd (omega arith)
 
-none-or-some : (n : ℕ) → (n ≡ 0) ⊎ (1 ≤ n)
+pub none-or-some : (n : ℕ) → (n ≡ 0) ⊎ (1 ≤ n)
 none-or-some zero = inl refl
 none-or-some (suc n) = inr (omega arith)
 

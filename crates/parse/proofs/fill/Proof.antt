@@ -63,6 +63,10 @@ module _ (c : tie.After-next-segment Inv-loop μ-loop) where
       subst (StepReads (codewords t) (s t .args .v) (l t .loop .p) (l t .loop .payload) (l t .loop .list) (c .next-segment .last .1 .1 .1 .0) (c .next-segment .last .1 .1 .1 .1 .0)) e
       (c .next-segment .ensures)
 
+-- the reading that is then taken apart
+abbrev read : tie.After-slice-known4 Inv-loop μ-loop → tie.After-next-segment Inv-loop μ-loop
+read c = c .before .before .before .before
+
 enum-known-step : tie.Need-enum-known-step Inv-loop μ-loop
 enum-known-step c = search needs
 
@@ -73,26 +77,26 @@ step-no-requires : tie.Need-step-no-requires Inv-loop μ-loop
 step-no-requires c κs = search needs
 
 same-length : tie.Need-same-length Inv-loop μ-loop
-same-length c = let n = c .before .before .before .before .before .before .before in n .next-segment .kept .1 .1 .1 .0 ∙ filling (t n) .long
+same-length c = let n = read (c .before .before .before) in n .next-segment .kept .1 .1 .1 .0 ∙ filling (t n) .long
 
 same-length-2 : tie.Need-same-length-2 Inv-loop μ-loop
-same-length-2 c = let n = c .before .before .before .before .before .before .before in n .next-segment .kept .1 .1 .1 .1 .0 ∙ filling (t n) .longs
+same-length-2 c = let n = read (c .before .before .before) in n .next-segment .kept .1 .1 .1 .1 .0 ∙ filling (t n) .longs
 
 returns : tie.Need-returns Inv-loop μ-loop
 returns c =
-    let n = c .before .before .before .before .before .before .before in
+    let n = read (c .before .before .before) in
     let e = c .before .enum-told .given .1 in
     filling-refused _ _ _ _ _ _ _ (filling (t n)) _ (goes (t n)) (told n (NoStep (c .before .enum-told .given .0 .0)) e)
     ∙ ap Fault (sym (c .step-no .ensures ∙ ap stepNumber e))
 
 loop-less : tie.Need-loop-less Inv-loop μ-loop
 loop-less c =
-    let n = c .before .before .before .before .before .before .before in
+    let n = read (c .before .before .before) in
     filling-less _ _ _ _ _ _ _ (filling (t n)) (goes (t n)) _ _ _ (told n (Next (c .before .step .given .0 .0)) (c .before .step .given .1))
 
 loop-again : tie.Need-loop-again Inv-loop μ-loop
 loop-again c =
-    let n = c .before .before .before .before .before .before .before in
+    let n = read (c .before .before .before) in
     filling-more _ _ _ _ _ _ _ (filling (t n)) (goes (t n)) _ _ _ (told n (Next (c .before .step .given .0 .0)) (c .before .step .given .1))
     (n .next-segment .kept .1 .1 .1 .0) (n .next-segment .kept .1 .1 .1 .1 .0)
 
