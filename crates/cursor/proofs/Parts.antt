@@ -1,5 +1,5 @@
 -- A field of bits in one byte, and a field of bits in a number: what a byte-wise cursor takes and puts.
--- A number is cut where its bits are cut, so that each law is one about quotients and remainders by powers of two. Assumes nothing.
+-- A number is cut where its bits are cut, so that each law is one about quotients and remainders by powers of two.
 use mathlib.Core.Path.{_≡_, sym, ap, ap₂, _∙_}
 use mathlib.Core.List.{List, [], _∷_, _++_, append-assoc}
 use Prim.Native.Nat.{ℕ, zero, suc, _+_, _-_, _*_, _/_, _%_, _^_, _<_, _≤_}

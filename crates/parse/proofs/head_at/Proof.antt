@@ -1,5 +1,4 @@
 -- `parse::head_at` meets its contract: each refusal ends at the demand that fails, in the paper's order.
--- Assumes nothing.
 use mathlib.Core.Path.{_≡_, sym, ap₂, _∙_}
 use mathlib.Core.Bool.{true}
 use Prim.Native.Nat.{_+_, _-_, _*_, _≤_}
@@ -11,7 +10,7 @@ use Rattle.cursor.specs.Cursor.{field}
 use Rattle.tables.specs.Tables.{countWidth}
 use Rattle.stream.specs.Stream.{known}
 use Rattle.parse.specs.Parse.{headWidth}
-use Rattle.parse.proofs.Heads.{going, no-mode, no-count, no-body, stands, field-small, width-small}
+use Rattle.parse.proofs.Heads.{going, no-mode, no-count, no-body, segment-fits, field-small, width-small}
 use Rattle.parse.proofs.head_at.Statement.{statement}
 use Rattle.parse.proofs.head_at.Tie as tie
 
@@ -101,7 +100,7 @@ returns-4 : tie.Need-returns-4
 unfolding headWidth
 returns-4 c =
     let w = c .before .before .before in (
-      stands _ _ (s w .pre .1) _ _ (mode-of (e w .before .before)) (known-of (e w)) (room w) _ (count-of w)
+      segment-fits _ _ (s w .pre .1) _ _ (mode-of (e w .before .before)) (known-of (e w)) (room w) _ (count-of w)
           (omega (arith, past-count w, c .if3 .left, c .before .body-width .ensures)),
       past-count w ∙ omega arith,
     )

@@ -1,5 +1,4 @@
 -- `cursor::Cursor::put` meets its contract. The invariant: the bits are the entry's with the first k of the field pasted in.
--- Assumes nothing.
 use mathlib.Core.Path.{_≡_, refl, ap, _∙_}
 use Prim.Native.Nat.{_+_, _-_, _%_, _≤_}
 use native.Mathlib.Omega.{arith}

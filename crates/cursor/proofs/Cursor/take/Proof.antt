@@ -1,5 +1,4 @@
 -- `cursor::Cursor::take` meets its contract. The invariant: v is the field of the k bits passed.
--- Assumes nothing.
 use mathlib.Core.Path.{_≡_, refl, sym, ap, _∙_}
 use Prim.Native.Nat.{_+_, _-_, _*_, _≤_}
 use native.Mathlib.Omega.{arith}
