@@ -1,6 +1,5 @@
 -- What is printed from the reader's buffers is the text of its answer: the payload is their front, and an odd number behind the pairs would
 -- print nothing.
--- Assumes nothing.
 use mathlib.Core.Path.{_≡_, refl, sym, ap, subst, _∙_}
 use mathlib.Core.List.{List, [], _∷_, _++_}
 use Prim.Native.Nat.{ℕ, suc, _+_, _*_, _/_, _≤_}
