@@ -69,8 +69,11 @@ print-reading-requires c κs =
     let k = known told in (
       omega (arith, reads-lawful _ _ _ _ _ _ _ _ _ _ (k .reads) .lawful .levels),
       (
-        rw (length-take-le _ _ (payload-room told)) (k .payload-fits),
-        (rw (length-take-le _ _ (list-room told)) (k .list-fits), start (asked told) .pre .1 .1),
+        k .fills,
+        (
+          rw (length-take-le _ _ (payload-room told)) (k .payload-fits),
+          (rw (length-take-le _ _ (list-room told)) (k .list-fits), start (asked told) .pre .1 .1),
+        ),
       ),
     )
 
