@@ -149,6 +149,11 @@ field-part s at k m h pos l =
     ∙ number-append (take k (drop at (byteBits s))) (take m (drop k (drop at (byteBits s))))
     ∙ ap₂ (λ (n y : ℕ). number (take k (drop at (byteBits s))) * 2 ^ n + y) (ap length bs ∙ length-bits m _) (ap number bs ∙ number-mod m _)
 
+-- .. from what a turn knows: the bits before it, the power, the turn's bits
+pub field-grown : (s : List ℕ) (at k m v p x : ℕ) → at + k + m ≤ 8 * length s → 0 < m → (at + k) % 8 + m ≤ 8 → v ≡ field s at k → p ≡ 2 ^ m
+    → x ≡ getD s ((at + k) / 8) 0 / 2 ^ (8 - (at + k) % 8 - m) % 2 ^ m → v * p + x ≡ field s at (k + m)
+field-grown s at k m v p x h pos l ev ep ex = rw (ev, ep, ex) (sym (field-part s at k m h pos l))
+
 -- the number of its first bits, with room made for m more
 pub field-shifted : (s : List ℕ) (at k m : ℕ) → at + k + m ≤ 8 * length s → 0 < m → (at + k) % 8 + m ≤ 8 → k + m ≤ 16 → field s at k * 2 ^ m < 4294967296
 field-shifted s at k m h pos l few = omega (arith, field-part s at k m h pos l, field-16 s at (k + m) few)

@@ -68,8 +68,9 @@ loop-less c = omega arith
 
 loop-again : tie.Need-loop-again Inv-loop μ-loop
 loop-again c =
-    let l = c .before .before .before .before .loop in
-    let a = c .before .before .before .before .before .before .args in
+    let t = c .before .before .before .before in
+    let l = t .loop in
+    let a = t .before .before .args in
     let m = c .before .before .least .result in (
       omega arith,
       (
