@@ -1,32 +1,35 @@
--- `kqs::load` meets its contract: it never goes past the buffer, and each turn leaves less of it.
--- Assumes nothing.
-use mathlib.Core.Path.{_≡_}
-use Prim.Native.Nat.{_-_, _≤_}
+-- `load::load` meets its contract: each turn holds more of the file, and never more than the buffer has.
+use mathlib.Core.Path.{_≡_, subst}
+use Prim.Native.Nat.{_-_, _<_}
+use native.Mathlib.Omega.{arith}
 use lib.ListN.{length}
 use borrow.Author.Needs.{needs}
-use Rattle.kqs.proofs.load.Statement.{statement}
-use Rattle.kqs.proofs.load.Tie as tie
+use Rattle.load.specs.Pieces.{Held}
+use Rattle.load.specs.declared.Next.{Next}
+use Rattle.load.proofs.load.Statement.{statement}
+use Rattle.load.proofs.load.Tie as tie
 
 abbrev Inv-loop : tie.InvT-loop
-Inv-loop fd buf₀ n₀ buf n = (n ≤ length buf) × (length buf ≡ length buf₀)
+Inv-loop fd buf₀ n₀ buf n = (n < length buf) × (length buf ≡ length buf₀)
 
 abbrev μ-loop : tie.MeasureT-loop
 μ-loop fd buf₀ n₀ buf n = length buf - n
 
+-- what the piece leaves, by what follows it
+follows : (c : tie.After-slice-known2 Inv-loop μ-loop) (r : Next) → c .before .before .piece .result ≡ r
+    → Held (c .before .before .before .before .loop .n) (length (c .before .before .piece .last .1 .0)) r
+follows c r e =
+    subst (λ (x : Next). Held (c .before .before .before .before .loop .n) (length (c .before .before .piece .last .1 .0)) x) e
+    (c .before .before .piece .ensures .held)
+
 loop-holds : tie.Need-loop-holds Inv-loop μ-loop
 loop-holds c = search needs
 
-sub-read : tie.Need-sub-read Inv-loop μ-loop
-sub-read c = search needs
+piece-requires : tie.Need-piece-requires Inv-loop μ-loop
+piece-requires c κs = search needs
 
-part-read-start : tie.Need-part-read-start Inv-loop μ-loop
-part-read-start c = search needs
-
-part-read-end : tie.Need-part-read-end Inv-loop μ-loop
-part-read-end c = search needs
-
-read-requires : tie.Need-read-requires Inv-loop μ-loop
-read-requires c κs = search needs
+enum-told : tie.Need-enum-told Inv-loop μ-loop
+enum-told c = search needs
 
 same-length : tie.Need-same-length Inv-loop μ-loop
 same-length c = search needs
@@ -34,38 +37,25 @@ same-length c = search needs
 returns : tie.Need-returns Inv-loop μ-loop
 returns c = search needs
 
-sub-count : tie.Need-sub-count Inv-loop μ-loop
-sub-count c = search needs
-
-part-count-start : tie.Need-part-count-start Inv-loop μ-loop
-part-count-start c = search needs
-
-part-count-end : tie.Need-part-count-end Inv-loop μ-loop
-part-count-end c = search needs
-
-count-requires : tie.Need-count-requires Inv-loop μ-loop
-count-requires c κs = search needs
+enum-known-held : tie.Need-enum-known-held Inv-loop μ-loop
+enum-known-held c = search needs
 
 same-length-2 : tie.Need-same-length-2 Inv-loop μ-loop
 same-length-2 c = search needs
 
 returns-2 : tie.Need-returns-2 Inv-loop μ-loop
-returns-2 c = search needs
+returns-2 c = follows (c .before .before .before) _ (c .before .held .given .1) .1
 
-add-n : tie.Need-add-n Inv-loop μ-loop
-add-n c = search needs
+enum-known-held-2 : tie.Need-enum-known-held-2 Inv-loop μ-loop
+enum-known-held-2 c = search needs
 
 loop-less : tie.Need-loop-less Inv-loop μ-loop
-loop-less c = search needs
+loop-less c = omega (arith, follows (c .before .before .before) _ (c .before .held2 .given .1), c .before .before .before .before .before .piece .ensures .long)
 
 loop-again : tie.Need-loop-again Inv-loop μ-loop
-loop-again c = search needs
-
-same-length-3 : tie.Need-same-length-3 Inv-loop μ-loop
-same-length-3 c = search needs
-
-returns-3 : tie.Need-returns-3 Inv-loop μ-loop
-returns-3 c = search needs
+loop-again c =
+    let p = c .before .before .before .before .before .piece in
+    let h = follows (c .before .before .before) _ (c .before .held2 .given .1) in (h .1, omega (arith, p .ensures .long))
 
 pub load-spec : {M : Type 1} → statement M
 load-spec =
@@ -74,20 +64,13 @@ load-spec =
     Inv-loop
     μ-loop
     loop-holds
-    sub-read
-    part-read-start
-    part-read-end
-    read-requires
+    piece-requires
+    enum-told
     same-length
     returns
-    sub-count
-    part-count-start
-    part-count-end
-    count-requires
+    enum-known-held
     same-length-2
     returns-2
-    add-n
+    enum-known-held-2
     loop-less
-    loop-again
-    same-length-3
-    returns-3)
+    loop-again)

@@ -1,23 +1,41 @@
--- `kqs::print_loaded` meets its contract: what was loaded is within the buffer, and so is its text.
--- Assumes nothing.
+-- `load::print_loaded` meets its contract: what was loaded is within the buffer, and so is its text.
 use mathlib.Core.Path.{_≡_, sym, subst, subst⁻¹}
 use mathlib.Core.List.{List}
 use Prim.Native.Nat.{ℕ}
+use lib.ListN.{take}
 use lib.Seq.{length-take-le}
 use borrow.Author.Needs.{needs}
 use Rattle.io.specs.Counts.{Counts}
-use Rattle.symbolfile.specs.SymbolFile.{FilePrinted}
+use Rattle.reader.specs.Reader.{Answer}
+use Rattle.text.specs.Paste.{Printed}
+use Rattle.symbolfile.specs.SymbolFile.{File, Closed, Holds, opened, FileAnswer, FilePrinted}
 use Rattle.symbolfile.proofs.Files.{within}
-use Rattle.kqs.specs.Loaded.{Within, fileOf}
-use Rattle.kqs.specs.declared.Loaded.{Loaded}
-use Rattle.kqs.proofs.print_loaded.Statement.{statement}
-use Rattle.kqs.proofs.print_loaded.Tie as tie
+use Rattle.load.specs.Loaded.{Within, LoadedAnswer, LoadedPrinted}
+use Rattle.load.specs.declared.Loaded.{Loaded}
+use Rattle.load.specs.declared.Loaded.the-variants.{Bytes, Unreadable}
+use Rattle.load.proofs.print_loaded.Statement.{statement}
+use Rattle.load.proofs.print_loaded.Tie as tie
+
+-- the file that was loaded
+abbrev fileOf : Loaded → List ℕ → File
+fileOf (Bytes n) bytes = Holds (take n bytes)
+fileOf Unreadable bytes = Closed
+
+same-answer : (l : Loaded) (bytes : List ℕ) (x : Answer) → FileAnswer (opened (fileOf l bytes)) x → LoadedAnswer l bytes x
+same-answer (Bytes n) bytes x p = p
+same-answer Unreadable bytes x p = p
 
 -- the text is that of what was loaded, and so many bytes of it are within the buffer
-told : (l l₁ : Loaded) (bytes b : List ℕ) (n : ℕ) (a : List ℕ) → l ≡ l₁ → FilePrinted (fileOf l₁ bytes) b n a → FilePrinted (fileOf l bytes) b n a × Counts n a
+told : (l l₁ : Loaded) (bytes b : List ℕ) (n : ℕ) (a : List ℕ) → l ≡ l₁ → FilePrinted (fileOf l₁ bytes) b n a
+    → LoadedPrinted l bytes b n a × Counts n a
 told l l₁ bytes b n a e p =
     let here = within (fileOf l₁ bytes) b n a p in
-    (subst⁻¹ (λ (k : Loaded). FilePrinted (fileOf k bytes) b n a) e p, (here, sym (length-take-le n a here)))
+    let text : LoadedPrinted l₁ bytes b n a = record {
+      answer = p .prints .answer;
+      answers = same-answer l₁ bytes (p .prints .answer) (p .prints .answers);
+      holds = subst (λ (t : List ℕ). Printed t b n a) (p .prints .prints) (p .holds);
+    } in
+    (subst⁻¹ (λ (k : Loaded). LoadedPrinted k bytes b n a) e text, (here, sym (length-take-le n a here)))
 
 enum-told : tie.Need-enum-told
 enum-told c = search needs
