@@ -1,5 +1,4 @@
 -- The examples hold: antt computes both sides.
--- Assumes nothing.
 use mathlib.Core.Path.{refl}
 use Rattle.basics.specs.Lists
 use Rattle.basics.specs.Sums
