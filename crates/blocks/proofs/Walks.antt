@@ -1,5 +1,4 @@
 -- A walk that keeps every turn: a store a turn, and what two such walks leave.
--- Assumes nothing.
 use mathlib.Core.Path.{_≡_, refl, sym, ap, _∙_}
 use mathlib.Core.List.{List, _++_}
 use Prim.Native.Nat.{ℕ, zero, suc, _+_, _<_}
@@ -10,8 +9,7 @@ use lib.ListN.{length, getD, set, length-append, List·getD-append}
 use lib.Seq.{getD-append-add}
 use Rattle.basics.specs.Walk.{walked}
 use Rattle.basics.proofs.Walk.{walked-length, walked-never, walked-met}
-use Rattle.code.specs.Code.{checks}
-use Rattle.blocks.specs.Blocks.{withChecks, dealt}
+use Rattle.blocks.specs.Blocks.{dealt}
 
 -- one more store
 pub deal-more : (place : ℕ → ℕ) (part out out₀ : List ℕ) (k q : ℕ) → q ≡ place k → out ≡ walked place (λ k. getD part k 0) k out₀
@@ -73,7 +71,7 @@ module _ (place : ℕ → ℕ) (part out : List ℕ) where
   pub dealt-long : (after : List ℕ) → after ≡ dealt place part out → length after ≡ length out
   dealt-long after e = rw e dealt-length
 
--- data that is dealt, and then its checks
-pub block-dealt : (place : ℕ → ℕ) (held made out out₁ out₂ : List ℕ) (k n : ℕ) → made ≡ checks k held → k ≡ n → out₁ ≡ dealt (λ k. place (0 + k)) held out
-    → out₂ ≡ dealt (λ k. place (length held + k)) made out₁ → out₂ ≡ dealt place (withChecks n held) out
-block-dealt place held made out out₁ out₂ k n em ek e₁ e₂ = e₂ ∙ rw (e₁, em, ek) (dealt-append place held (checks n held) out (length held) refl)
+-- a front that is dealt, and then what follows it
+pub dealt-both : (place : ℕ → ℕ) (held made out out₁ out₂ : List ℕ) → out₁ ≡ dealt (λ k. place (0 + k)) held out
+    → out₂ ≡ dealt (λ k. place (length held + k)) made out₁ → out₂ ≡ dealt place (held ++ made) out
+dealt-both place held made out out₁ out₂ e₁ e₂ = e₂ ∙ rw e₁ (dealt-append place held made out (length held) refl)

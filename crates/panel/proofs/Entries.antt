@@ -8,7 +8,7 @@ use lib.ListN.{length}
 use Rattle.tables.specs.Tables.{side}
 use Rattle.writer.specs.Writer.{Request, Drawing, draw, request}
 use Rattle.writer.specs.Writer as spec
-use Rattle.writer.specs.Answer.{Writes, answer}
+use Rattle.writer.specs.Answer.{Writes, drawingGiven}
 use Rattle.writer.specs.declared.Symbol.{Symbol}
 use Rattle.writer.specs.declared.Drawing as declared
 use Rattle.writer.specs.declared.Drawing.the-variants as drawing
@@ -92,18 +92,18 @@ module _ (m payload list payload′ list′ : List ℕ) (a : Answered) (done : A
 
 module _ (r : Request) (out after : List ℕ) (a : declared.Drawing) (done : Writes r out a after) where
   pub drawn : (s : Symbol) → a ≡ drawing.Drawn s → WriteAnswers r out (record { refusal = 0; version = s .version; mask = s .mask; side = s .side }) after
-  drawn s e = record { answer = same (draw r (length out)) (sym e ∙ done .answered); memory = done .output }
+  drawn s e = record { answer = same (draw r (length out)) (sym e ∙ done .given); memory = done .output }
     where
-      same : (x : Drawing) → drawing.Drawn s ≡ answer x → record { refusal = 0; version = s .version; mask = s .mask; side = s .side } ≡ drawnOf x
+      same : (x : Drawing) → drawing.Drawn s ≡ drawingGiven x → record { refusal = 0; version = s .version; mask = s .mask; side = s .side } ≡ drawnOf x
       same (spec.Drawn v k modules) z =
           let y : s ≡ record { version = v; mask = k; side = side v } = cc in
           ap (λ (s : Symbol). record { refusal = 0; version = s .version; mask = s .mask; side = s .side }) y
       same (spec.Refused n) z = absurd (let y : _≡_ {A = ℕ} 0 1 = cc in omega arith)
 
   pub refused : (k w : ℕ) → a ≡ drawing.Refused k → w ≡ k → WriteAnswers r out (record { refusal = w; version = 0; mask = 0; side = 0 }) after
-  refused k w e ew = record { answer = same (draw r (length out)) (sym e ∙ done .answered); memory = done .output }
+  refused k w e ew = record { answer = same (draw r (length out)) (sym e ∙ done .given); memory = done .output }
     where
-      same : (x : Drawing) → drawing.Refused k ≡ answer x → record { refusal = w; version = 0; mask = 0; side = 0 } ≡ drawnOf x
+      same : (x : Drawing) → drawing.Refused k ≡ drawingGiven x → record { refusal = w; version = 0; mask = 0; side = 0 } ≡ drawnOf x
       same (spec.Drawn v j modules) z = absurd (let y : _≡_ {A = ℕ} 0 1 = cc in omega arith)
       same (spec.Refused n) z = let y : n ≡ k = cc in ap (λ (n : ℕ). record { refusal = n; version = 0; mask = 0; side = 0 }) (ew ∙ sym y)
 

@@ -92,9 +92,7 @@ most r out z =
     sums = by-cases (ℕ-discrete (counts (r .list)) (length (r .payload))) (λ e. e) (λ n. absurd (s .sums n))
 
     fit : fits (taken (r .level) (r .version) (r .list)) (r .level) (r .list) ≡ true
-    fit =
-        let n : ¬ (Tables.lastVersion < r .version) = λ h. s .numbers (inr (inl h)) in
-        fit-rule (r .level) (r .version) (r .list) (omega arith) .takes (λ e. omega (arith, lawful .least))
+    fit = fit-rule (r .level) (r .version) (r .list) .takes (λ e. omega (arith, lawful .least))
 
 pub longest-list : LongestList
 longest-list = record { reached = reached; alone = alone; most = most }

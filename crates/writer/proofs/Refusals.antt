@@ -1,5 +1,4 @@
 -- "The writer checks 1 to 6 in order": each refusal exactly under its own words, after those before it.
--- Assumes nothing.
 use mathlib.Core.Path.{_≡_, refl}
 use mathlib.Core.Bool.{Bool, true, false, _&&_}
 use mathlib.Core.Logic.{_⊎_, inl, inr, ⊎-elim}
@@ -73,7 +72,7 @@ refusals r out =
     (λ e f. f (eqb-true (counts (r .list)) (length (r .payload)) e)) (eqb-false (counts (r .list)) (length (r .payload))) (λ sums.
     next (lawfulCharacters (r .list) (r .payload)) 4 _ (BadCharacter (r .list) (r .payload)) (Five r out)
     (characters-lawful (r .list) (r .payload) (omega (arith, eqb-true (counts (r .list)) (length (r .payload)) sums))) (characters-faulty (r .list) (r .payload)) (λ characters.
-    let rule = fit-rule (r .level) (r .version) (r .list) (numbers-right r numbers .1 .0) in
+    let rule = fit-rule (r .level) (r .version) (r .list) in
     next (leb 1 v) 5 _ (NoFit (r .level) (r .version) (r .list)) (Six r out)
     (λ e f. omega (arith, leb-true 1 v e, rule .none .1 f)) (λ e. rule .none .0 (omega (arith, leb-false 1 v e))) (λ fit.
     next (leb (side v * side v) out) 6 0 (Short r out) (λ k. k ≡ 0)

@@ -1,5 +1,4 @@
 -- `blocks::deal` meets its contract. The invariant: the first k codewords are at their places.
--- Assumes nothing.
 use mathlib.Core.Path.{_≡_, refl}
 use Prim.Native.Nat.{_+_, _-_, _≤_}
 use native.Mathlib.Nat.{le-antisymm}
