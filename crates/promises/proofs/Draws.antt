@@ -1,5 +1,4 @@
 -- A request is drawn exactly where no check refuses it.
--- Assumes nothing.
 use mathlib.Core.Path.{ap}
 use Prim.Native.Nat.{ℕ}
 use Rattle.writer.specs.Writer.{draw, drawAt, taken}

@@ -1,5 +1,4 @@
 -- The longest list: 154 empty byte segments fit 9-L, by computing, and no version and level holds more segments, since each has a head.
--- Assumes nothing.
 use mathlib.Core.Path.{_≡_, refl, subst}
 use mathlib.Core.Bool.{Bool, true, cond}
 use mathlib.Core.Logic.{_⊎_, inl, inr, by-cases}

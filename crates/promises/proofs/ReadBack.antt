@@ -1,5 +1,4 @@
 -- What the writer draws holds the message that was asked for, so it reads back, and survives any damage within its bounds.
--- Assumes nothing.
 use mathlib.Core.Path.{_≡_, refl, sym, ap, subst, subst₂, _∙_}
 use mathlib.Core.Logic.{inl, inr, by-cases}
 use mathlib.Core.Bool.{Bool, true, false}

@@ -1,5 +1,4 @@
 -- What holds of writer and reader together, each demand as a statement with a name.
--- Assumes nothing.
 use mathlib.Core.Path.{_≡_}
 use mathlib.Core.Bool.{true}
 use mathlib.Core.List.{List, [], _∷_, List·Memᴰ}

@@ -1,5 +1,4 @@
 -- What is shown of the reader's answers beside the contract of `read`, each a statement with a name.
--- Assumes nothing.
 use mathlib.Core.Path.{_≡_}
 use mathlib.Core.Logic.{_↔_}
 use mathlib.Core.List.{List}

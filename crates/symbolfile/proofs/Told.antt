@@ -14,7 +14,7 @@ use Rattle.reader.specs.declared.Reading.{Reading}
 use Rattle.reader.specs.declared.Answered.{Answered}
 use Rattle.reader.specs.declared.Answered.the-variants.{Read as Told, Refused as Denied}
 use Rattle.reader.specs.Reader.{Answer, Read, Refused, Reads, payloadAfter, listAfter}
-use Rattle.reader.specs.Answers.{Answers, answered}
+use Rattle.reader.specs.Answers.{Answers, answeredOf}
 use Rattle.text.specs.Text.{readingText}
 
 -- what is known where the reader has told a reading: it is an answer, the buffers hold it, and their fronts print as it does
@@ -59,7 +59,7 @@ module _ (m p l p′ l′ : List ℕ) (lp : length p ≡ mostPayload) (ll : leng
   pub told : (r : Answered) (x : Reading) → r ≡ Told x → Answers m p l r p′ l′ → Shown m x p′ l′
   told r x e a = by (a .answer) (a .reads) (sym (a .says) ∙ e) (a .payload-memory) (a .list-memory)
     where
-      by : (w : Answer) → Reads m (length p) (length l) w → answered w ≡ Told x → p′ ≡ payloadAfter w p → l′ ≡ listAfter w l → Shown m x p′ l′
+      by : (w : Answer) → Reads m (length p) (length l) w → answeredOf w ≡ Told x → p′ ≡ payloadAfter w p → l′ ≡ listAfter w l → Shown m x p′ l′
       by (Read v level mask bytes numbers t e) q s ep el =
           let same : record {
             version = v;
@@ -77,6 +77,6 @@ pub denied : (m p l p′ l′ : List ℕ) (r : Answered) (n : ℕ) → r ≡ Den
     → Reads m mostPayload mostList (Refused n)
 denied m p l p′ l′ r n e lp ll a = by (a .answer) (rw (lp, ll) at (a .reads)) (sym (a .says) ∙ e)
   where
-    by : (w : Answer) → Reads m mostPayload mostList w → answered w ≡ Denied n → Reads m mostPayload mostList (Refused n)
+    by : (w : Answer) → Reads m mostPayload mostList w → answeredOf w ≡ Denied n → Reads m mostPayload mostList (Refused n)
     by (Read v level mask bytes numbers t e) q s = let z : _≡_ {A = ℕ} 0 1 = cc in absurd (omega arith)
     by (Refused k) q s = let z : k ≡ n = cc in rw z at q
