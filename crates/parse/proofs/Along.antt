@@ -61,7 +61,7 @@ module _ (codewords : List ℕ) (mode count used at₀ : ℕ) (payload₀ : List
     along-all e =
         let z : count - done ≡ 0 = omega arith in
         record {
-          number = rw (a .ranges, z, none-ranges mode (drop at (byteBits codewords)));
+          refuses = rw (a .ranges, z, none-ranges mode (drop at (byteBits codewords)));
           chars = λ c o. sym (a .chars ∙ rw (z, e, none-chars mode (drop at (byteBits codewords))) (append-nil (take (used + count) payload)));
           place = λ c o. let q : c .at ≡ at = cc in omega (arith, a .place, ap (bodyWidth mode) z, none-width mode);
         }
@@ -101,7 +101,7 @@ module _ (codewords : List ℕ) (mode count used at₀ : ℕ) (payload₀ payloa
         most = omega (arith, n .most);
         inside = n .inside;
         broken = λ h. record {
-          number = rw (a .ranges, n .ranges, lt-leb _ _ h);
+          refuses = rw (a .ranges, n .ranges, lt-leb _ _ h);
           chars = λ c o. absurd (no-cursor c o);
           place = λ c o. absurd (no-cursor c o);
         };

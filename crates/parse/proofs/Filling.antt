@@ -60,7 +60,7 @@ module _ (codewords : List ℕ) (v : ℕ) (payload₀ list₀ : List ℕ) where
   module _ (payload list : List ℕ) (p : Progress) (f : Filling codewords v payload₀ list₀ payload list p) where
     pub filling-asks : length codewords ≤ mostData v → mostPayload ≤ length payload₀ → mostList ≤ length list₀ → ends (drop (p .cursor .at) (byteBits codewords)) ≡ false
         → StepAsks codewords v p payload list
-    filling-asks s h l g = record { short = s; goes = g; load = f .load; rooms = omega (arith, f .long); pairs = omega (arith, f .longs) }
+    filling-asks s h l g = record { short = s; goes = g; load = f .load; rooms = omega (arith, f .long); numbers = omega (arith, f .longs) }
 
     -- the fuel is not spent
     heads-few : (t : Bool) → cond t 12 15 * p .segments ≤ p .cursor .at → p .segments ≤ p .cursor .at

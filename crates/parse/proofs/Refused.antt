@@ -3,20 +3,20 @@
 use mathlib.Core.Path.{_≡_, refl, sym, ap, subst, _∙_}
 use mathlib.Core.Bool.{Bool, true, false, _||_}
 use mathlib.Core.Logic.{_≢_, _⊎_, inl, inr, ⊎-elim}
-use mathlib.Core.List.{List, []}
-use Prim.Native.Nat.{ℕ, zero, suc, _+_, _-_, _*_, _<_, _≤_}
+use mathlib.Core.List.{List}
+use Prim.Native.Nat.{ℕ, zero, suc, _+_, _-_, _<_, _≤_}
 use native.Mathlib.Nat.{not-suc-le-zero}
 use native.Mathlib.Omega.{arith}
-use lib.Dec.{leb, ltb, eqb}
-use lib.ListN.{length, take, drop, length-drop}
+use lib.Dec.{ltb, eqb}
+use lib.ListN.{length, drop, length-drop}
 use lib.Seq.{drop-drop}
 use borrow.Author.Tests.{ltb-false, eqb-false, le-ltb, ne-eqb, le-leb, lt-leb}
-use Rattle.basics.specs.Bits.{byteBits, number}
+use Rattle.basics.specs.Bits.{byteBits}
 use Rattle.basics.specs.Lists.{AtMost}
 use Rattle.basics.proofs.Bits.{byteBits-le}
 use Rattle.cursor.proofs.Bits.{order, at-most-drop}
 use Rattle.stream.specs.Stream.{known, bodyWidth}
-use Rattle.parse.specs.Parse.{groupsInRange, End, Segment, Refusal, headWidth, segment, ends, front, Parsed, Message, Fault, inFront, parse, message}
+use Rattle.parse.specs.Parse.{groupsInRange, Segment, Refusal, headWidth, segment, ends, front, Parsed, Message, Fault, inFront, parse, message}
 use Rattle.parse.specs.Faults.{readMode, readCount, readWidth, GroupOver, UnknownMode, RunsPast, BadGroup, SoundSegment, segmentPlace, FirstFault, StreamRefused}
 use Rattle.parse.proofs.Front.{known-some, parse-segment, parse-refusal, parse-end}
 use Rattle.parse.proofs.Ranges.{over-of, over-ranges}
@@ -94,7 +94,7 @@ module _ (v : ℕ) (bs : List ℕ) where
     body-le = at-most-drop 1 (headWidth v (readMode bs)) bs b
 
     front-group : BadGroup v bs → front v bs ≡ Refusal 15
-    front-group g = broken-groups (g .knows) (g .fits) (over-ranges (readMode bs) (readCount v bs) _ (g .knows) body-le (g .over))
+    front-group g = broken-groups (g .knows) (g .holds) (over-ranges (readMode bs) (readCount v bs) _ (g .knows) body-le (g .over))
 
     groups-over : known (readMode bs) ≡ true → groupsInRange (readMode bs) (readCount v bs) (drop (headWidth v (readMode bs)) bs) ≡ false
         → GroupOver (readMode bs) (readCount v bs) (drop (headWidth v (readMode bs)) bs)
@@ -104,7 +104,7 @@ module _ (v : ℕ) (bs : List ℕ) where
     front-sound s = by-test (groupsInRange (readMode bs) (readCount v bs) (drop (headWidth v (readMode bs)) bs)) refl
       where
         by-test : (t : Bool) → groupsInRange (readMode bs) (readCount v bs) (drop (headWidth v (readMode bs)) bs) ≡ t → front v bs ≡ Segment (readMode bs) (readCount v bs)
-        by-test true e = whole-groups (s .knows) (s .fits) e
+        by-test true e = whole-groups (s .knows) (s .holds) e
         by-test false e = absurd (s .ranged (groups-over (s .knows) e))
 
 -- .. and one of them holds
@@ -118,11 +118,11 @@ data Case (v : ℕ) (bs : List ℕ) : Type 0 where
 module _ (v : ℕ) (bs : List ℕ) (b : AtMost 1 bs) where
   by-groups : known (readMode bs) ≡ true → readWidth v bs ≤ length bs
       → (t : Bool) → groupsInRange (readMode bs) (readCount v bs) (drop (headWidth v (readMode bs)) bs) ≡ t → Case v bs
-  by-groups k f false e = group (record { knows = k; fits = f; over = groups-over v bs b k e })
+  by-groups k f false e = group (record { knows = k; holds = f; over = groups-over v bs b k e })
   by-groups k f true e =
       sound (record {
         knows = k;
-        fits = f;
+        holds = f;
         ranged = λ o. let z : _≡_ {A = ℕ} 0 1 = cc (e, over-ranges (readMode bs) (readCount v bs) _ k (body-le v bs b) o) in omega arith;
       })
 
@@ -163,20 +163,20 @@ module _ (v : ℕ) (bs : List ℕ) where
   module _ (F : List ℕ → Type 0) where
     first-here : F bs → FirstFault v F bs
     unfolding segmentPlace
-    first-here f = record { segment = 0; sound = λ k h. absurd (not-suc-le-zero h); fault = f }
+    first-here f = record { index = 0; sound = λ k h. absurd (not-suc-le-zero h); fault = f }
 
     first-behind : SoundSegment v bs → FirstFault v F behind → FirstFault v F bs
     unfolding segmentPlace
-    first-behind s f = record { segment = suc (f .segment); sound = sounds; fault = subst F (sym (bits-next (f .segment))) (f .fault) }
+    first-behind s f = record { index = suc (f .index); sound = sounds; fault = subst F (sym (bits-next (f .index))) (f .fault) }
       where
-        sounds : (k : ℕ) → k < suc (f .segment) → SoundSegment v (drop (segmentPlace v bs k) bs)
+        sounds : (k : ℕ) → k < suc (f .index) → SoundSegment v (drop (segmentPlace v bs k) bs)
         sounds zero h = s
         sounds (suc k) h = subst (SoundSegment v) (sym (bits-next k)) (f .sound k (omega arith))
 
     -- .. and back
     first-cases : FirstFault v F bs → F bs ⊎ (SoundSegment v bs × FirstFault v F behind)
     unfolding segmentPlace
-    first-cases f = at (f .segment) (f .sound) (f .fault)
+    first-cases f = at (f .index) (f .sound) (f .fault)
       where
         at : (n : ℕ) → ((k : ℕ) → k < n → SoundSegment v (drop (segmentPlace v bs k) bs)) → F (drop (segmentPlace v bs n) bs)
             → F bs ⊎ (SoundSegment v bs × FirstFault v F behind)
@@ -185,14 +185,14 @@ module _ (v : ℕ) (bs : List ℕ) where
             inr (
               s 0 (omega arith),
               record {
-                segment = n;
+                index = n;
                 sound = λ k h. subst (SoundSegment v) (bits-next k) (s (suc k) (omega arith));
                 fault = subst F (bits-next n) g;
               },
             )
 
 first-other : (v : ℕ) (F G : List ℕ → Type 0) (bs : List ℕ) → ((xs : List ℕ) → F xs → G xs) → FirstFault v F bs → FirstFault v G bs
-first-other v F G bs h f = record { segment = f .segment; sound = f .sound; fault = h _ (f .fault) }
+first-other v F G bs h f = record { index = f .index; sound = f .sound; fault = h _ (f .fault) }
 
 -- ---- the whole stream
 
@@ -206,7 +206,7 @@ broken-front v n bs b =
     (⊎-elim (λ w. front-past v bs (w .1) ∙ ap Refusal (sym (w .0))) (λ w. front-group v bs b (w .1) ∙ ap Refusal (sym (w .0))))
 
 broken-four : (v n : ℕ) (bs : List ℕ) → Broken v n bs → 4 ≤ length bs
-broken-four v n bs = ⊎-elim (λ w. w .1 .four) (⊎-elim (λ w. w .1 .four) (λ w. four-bits v bs (w .1 .fits)))
+broken-four v n bs = ⊎-elim (λ w. w .1 .four) (⊎-elim (λ w. w .1 .four) (λ w. four-bits v bs (w .1 .holds)))
 
 -- what follows a sound segment
 module _ (fuel v : ℕ) (bs : List ℕ) (b : AtMost 1 bs) (s : SoundSegment v bs) where
@@ -251,7 +251,7 @@ fault-first (suc fuel) v n bs b p =
 
 first-fault : (fuel v n : ℕ) (bs : List ℕ) → AtMost 1 bs → length bs ≤ fuel → FirstFault v (Broken v n) bs → parse fuel v bs ≡ Fault n
 first-fault zero v n bs b h f =
-    absurd (⊎-elim (λ w. omega (arith, broken-four v n bs w)) (λ s. omega (arith, four-bits v bs (s .0 .fits))) (first-cases v bs (Broken v n) f))
+    absurd (⊎-elim (λ w. omega (arith, broken-four v n bs w)) (λ s. omega (arith, four-bits v bs (s .0 .holds))) (first-cases v bs (Broken v n) f))
 first-fault (suc fuel) v n bs b h f =
     ⊎-elim (λ w. parse-refusal fuel v bs n (broken-front v n bs b w))
     (λ s. behind-fault fuel v bs b (s .0) n

@@ -61,12 +61,12 @@ module _ (codewords : List ℕ) (v : ℕ) (p : Progress) (payload list : List �
     pub room-pairs : p .segments + 1 ≤ 154
     room-pairs = enough .1
 
-    pub mode-fits : mode < 65536
-    mode-fits = omega (arith, known-small mode (s .knows))
+    pub mode-small : mode < 65536
+    mode-small = omega (arith, known-small mode (s .knows))
 
-    pub count-fits : count < 65536
+    pub count-small : count < 65536
     unfolding field
-    count-fits =
+    count-small =
         let e : field codewords (p .cursor .at + 4) (countWidth v mode) ≡ count
         = ap (λ (bs : List ℕ). number (take (countWidth v mode) bs)) (sym (drop-drop 4 (p .cursor .at) (byteBits codewords))) ∙ s .counts in
         rw (← e) (field-small codewords (p .cursor .at + 4) (countWidth v mode) (width-small v mode))
@@ -83,7 +83,7 @@ module _ (codewords : List ℕ) (v : ℕ) (p : Progress) (payload list : List �
       step-broken after r n d o e =
           let k : readingNumber r ≡ 15 = ap readingNumber o in
           fits-broken v mode count (drop (p .cursor .at) (byteBits codewords)) s (a .goes)
-          (rw the-body at (out-of-range (groupsInRange mode count (drop b (byteBits codewords))) (sym k ∙ d .number)))
+          (rw the-body at (out-of-range (groupsInRange mode count (drop b (byteBits codewords))) (sym k ∙ d .refuses)))
           ∙ ap Refusal (sym (e ∙ k))
 
       pub step-done : (after : List ℕ) (r : Reading) (next : Cursor) → BodyReads codewords b mode count (p .used) payload after r → r ≡ Past next
@@ -95,10 +95,10 @@ module _ (codewords : List ℕ) (v : ℕ) (p : Progress) (payload list : List �
         fronts =
             whole-segment v mode count (drop (p .cursor .at) (byteBits codewords))
             (fits-whole v mode count (drop (p .cursor .at) (byteBits codewords)) s
-            (rw the-body at (in-range (groupsInRange mode count (drop b (byteBits codewords))) (sym (ap readingNumber o) ∙ d .number))));
+            (rw the-body at (in-range (groupsInRange mode count (drop b (byteBits codewords))) (sym (ap readingNumber o) ∙ d .refuses))));
         place = omega (arith, d .place next o, e);
         uses = refl;
         more = refl;
         chars = rw the-body at (d .chars next o);
-        lists = put-two list (2 * p .segments) mode count (omega (arith, room-pairs, a .pairs));
+        lists = put-two list (2 * p .segments) mode count (omega (arith, room-pairs, a .numbers));
       }

@@ -58,13 +58,13 @@ pub record RunsPast (v : ℕ) (bs : List ℕ) : Type 0 where
 -- 15: "a group out of range", in a segment whose body fits
 pub record BadGroup (v : ℕ) (bs : List ℕ) : Type 0 where
   pub knows : known (readMode bs) ≡ true
-  pub fits : readWidth v bs ≤ length bs
+  pub holds : readWidth v bs ≤ length bs
   pub over : GroupOver (readMode bs) (readCount v bs) (drop (headWidth v (readMode bs)) bs)
 
 -- nothing
 pub record SoundSegment (v : ℕ) (bs : List ℕ) : Type 0 where
   pub knows : known (readMode bs) ≡ true
-  pub fits : readWidth v bs ≤ length bs
+  pub holds : readWidth v bs ≤ length bs
   pub ranged : GroupOver (readMode bs) (readCount v bs) (drop (headWidth v (readMode bs)) bs) → ⊥
 
 -- ---- the whole stream
@@ -76,9 +76,9 @@ segmentPlace v bs (suc k) = segmentPlace v bs k + readWidth v (drop (segmentPlac
 
 -- "the stream from its front, where the first fault decides": the segments before it are sound
 pub record FirstFault (v : ℕ) (Faulty : List ℕ → Type 0) (bs : List ℕ) : Type 0 where
-  pub segment : ℕ
-  pub sound : (k : ℕ) → k < segment → SoundSegment v (drop (segmentPlace v bs k) bs)
-  pub fault : Faulty (drop (segmentPlace v bs segment) bs)
+  pub index : ℕ
+  pub sound : (k : ℕ) → k < index → SoundSegment v (drop (segmentPlace v bs k) bs)
+  pub fault : Faulty (drop (segmentPlace v bs index) bs)
 
 -- each number exactly where its words hold, and no other
 pub record StreamRefused (v : ℕ) (codewords : List ℕ) : Type 0 where

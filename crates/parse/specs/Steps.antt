@@ -47,7 +47,7 @@ pub record BodyAsks (codewords : List ℕ) (at mode count used room : ℕ) : Typ
 
 -- 15 where a group is out of range; else its characters stand after those used, and the cursor past it
 pub record BodyReads (codewords : List ℕ) (at mode count used : ℕ) (payload after : List ℕ) (r : Reading) : Type 0 where
-  pub number : readingNumber r ≡ cond (groupsInRange mode count (drop at (byteBits codewords))) 0 15
+  pub refuses : readingNumber r ≡ cond (groupsInRange mode count (drop at (byteBits codewords))) 0 15
   pub chars : (c : Cursor) → r ≡ Past c → take (used + count) after ≡ take used payload ++ characters mode count (drop at (byteBits codewords))
   pub place : (c : Cursor) → r ≡ Past c → c .at ≡ at + bodyWidth mode count
 
@@ -64,7 +64,7 @@ pub record StepAsks (codewords : List ℕ) (v : ℕ) (p : Progress) (payload lis
   pub goes : ends (drop (p .cursor .at) (byteBits codewords)) ≡ false
   pub load : Load (leb v 9) (p .cursor .at) (p .used) (p .segments)
   pub rooms : mostPayload ≤ length payload
-  pub pairs : mostList ≤ length list
+  pub numbers : mostList ≤ length list
 
 -- the segment's characters stand after those used, its mode and count after the segments before it, and the cursor past it
 pub record Stepped (codewords : List ℕ) (v : ℕ) (p : Progress) (payload list payload′ list′ : List ℕ) (q : Progress) : Type 0 where

@@ -10,7 +10,7 @@ use Rattle.parse.specs.declared.Heading.the-variants.{Found, Refused}
 use Rattle.parse.specs.Answer.{headingNumber}
 use Rattle.parse.specs.Parse.{Refusal}
 use Rattle.parse.specs.Steps.{HeadReads, StepAsks}
-use Rattle.parse.proofs.Steps.{few-codewords, room-chars, room-pairs, mode-fits, count-fits, body-asks, step-broken, step-done}
+use Rattle.parse.proofs.Steps.{few-codewords, room-chars, room-pairs, mode-small, count-small, body-asks, step-broken, step-done}
 use Rattle.parse.proofs.next_segment.Statement.{statement}
 use Rattle.parse.proofs.next_segment.Tie as tie
 
@@ -89,16 +89,16 @@ mul-i : tie.Need-mul-i
 mul-i c = omega (arith, pairs-room (k c))
 
 cast-list : tie.Need-cast-list
-cast-list c = record { fits = mode-fits _ _ _ _ _ (asks (k c)) _ _ (found (k c) .0) }
+cast-list c = record { fits = mode-small _ _ _ _ _ (asks (k c)) _ _ (found (k c) .0) }
 
 mul-list : tie.Need-mul-list
 mul-list c = omega (arith, pairs-room (k c))
 
 slice-write-list : tie.Need-slice-write-list
-slice-write-list c = omega (arith, pairs-room (k c), asks (k c) .pairs)
+slice-write-list c = omega (arith, pairs-room (k c), asks (k c) .numbers)
 
 cast-list-2 : tie.Need-cast-list-2
-cast-list-2 c = record { fits = count-fits _ _ _ _ _ (asks (k c)) _ _ (found (k c) .0) }
+cast-list-2 c = record { fits = count-small _ _ _ _ _ (asks (k c)) _ _ (found (k c) .0) }
 
 add-list : tie.Need-add-list
 add-list c = omega (arith, pairs-room (k c))
@@ -107,7 +107,7 @@ mul-list-2 : tie.Need-mul-list-2
 mul-list-2 c = omega (arith, pairs-room (k c))
 
 slice-write-list-2 : tie.Need-slice-write-list-2
-slice-write-list-2 c = simp length-set (omega (arith, pairs-room (k c), asks (k c) .pairs))
+slice-write-list-2 c = simp length-set (omega (arith, pairs-room (k c), asks (k c) .numbers))
 
 add-t22 : tie.Need-add-t22
 add-t22 c = omega (arith, room-chars _ _ _ _ _ (asks (k c)) _ _ (found (k c) .0))
