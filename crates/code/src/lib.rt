@@ -1,8 +1,8 @@
 // The code of a block: the checks of data, written into a lent part, and the values of a word at the powers of 2.
 ghost use mathlib.Core.Path.{_≡_};
 ghost use mathlib.Core.List.{_++_};
-ghost use Prim.Native.Nat.{_≤_};
-ghost use lib.ListN.{length, take, replicate};
+ghost use Prim.Native.Nat.{_-_, _≤_};
+ghost use lib.ListN.{length, take, drop, replicate};
 ghost use Rattle.basics.specs.Build.{build};
 ghost use Rattle.field.specs.Field.{powN};
 ghost use Rattle.code.specs.Code.{value, checks, syndromesOf, generator as generatorOf};
@@ -59,10 +59,11 @@ fn reduce(r: [u8; COEFFICIENTS], g: [u8; COEFFICIENTS], d: u8) -> [u8; COEFFICIE
     s
 }
 
-// The remainder of the data times x^n: its n checks stand in front.
+// The remainder of the data times x^n: its n checks, and zeros behind them.
 pub fn remainder(held: &[u8], n: usize) -> [u8; COEFFICIENTS]
     requires { ⌜ n ≤ 30 ⌝ }
     ensures { λ r. ⌜ take n r ≡ checks n (now (held .entry)) ⌝ }
+    ensures { λ r. ⌜ drop n r ≡ replicate (coefficients - n) 0 ⌝ }
 {
     let g = generator(n);
     let mut r: [u8; COEFFICIENTS] = [0; COEFFICIENTS];

@@ -78,6 +78,22 @@ refusals r out =
     next (leb (side v * side v) out) 6 0 (Short r out) (λ k. k ≡ 0)
     (λ e f. omega (arith, leb-true (side v * side v) out e)) (leb-false (side v * side v) out) (λ room. refl))))))
 
+-- ---- no number but 1 to 6, and 0
+
+unless-most : (b : Bool) (n k : ℕ) → n ≤ 6 → k ≤ 6 → unless b n k ≤ 6
+unless-most true n k h l = l
+unless-most false n k h l = h
+
+pub refusal-most : (r : Request) (out : ℕ) → refusal r out ≤ 6
+unfolding refusal
+refusal-most r out =
+    let v = taken (r .level) (r .version) (r .list) in
+    unless-most (inRange (r .level) (r .version) (r .mask)) 1 _ (omega arith)
+    (unless-most (lawfulList (r .list)) 2 _ (omega arith)
+    (unless-most (eqb (counts (r .list)) (length (r .payload))) 3 _ (omega arith)
+    (unless-most (lawfulCharacters (r .list) (r .payload)) 4 _ (omega arith)
+    (unless-most (leb 1 v) 5 _ (omega arith) (unless-most (leb (side v * side v) out) 6 0 (omega arith) (omega arith))))))
+
 -- ---- the number, from what the checks gave
 
 module _ (r : Request) (out : ℕ) where

@@ -185,7 +185,7 @@ loop-again c =
       omega (arith, next k),
       (
         rw add-one (omega (arith, block-next (v k) (level k) (b k), k .block-data .ensures)),
-        (rw (add-one, suc-mul) (omega (arith, many k)), after-part k (r .remainder .result) (copied .copy .last .1 .0) (r .remainder .ensures) (copied .copy .ensures)),
+        (rw (add-one, suc-mul) (omega (arith, many k)), after-part k (r .remainder .result) (copied .copy .last .1 .0) (r .remainder .ensures .0) (copied .copy .ensures)),
       ),
     )
 
