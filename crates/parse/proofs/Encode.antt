@@ -1,6 +1,5 @@
 -- `parse-encode`: the data codewords of a lawful message are read back to that message. The message fits, so each count fits its field;
 -- the padding leaves the segments' bits, then up to four zero bits as fit, so that what follows them is the stream's end.
--- Assumes nothing.
 use mathlib.Core.Path.{_≡_, refl, sym, ap, ap₂, _∙_}
 use mathlib.Core.Bool.{Bool, true, false, cond, _||_}
 use mathlib.Core.Logic.{_⊎_, ⊎-elim}

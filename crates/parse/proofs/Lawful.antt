@@ -1,6 +1,5 @@
 -- `parsed-lawful`: what is read is a lawful message of its version and level. A group in range has characters of its mode, each body has
 -- as many characters as its count, and no segment runs past the data bits. `buffers-enough`: so it fits the reader's buffers.
--- Assumes nothing.
 use mathlib.Core.Path.{_≡_, refl, sym, ap, _∙_}
 use mathlib.Core.Bool.{Bool, true, false, cond, _&&_}
 use mathlib.Core.List.{List, [], _∷_, _++_}
@@ -19,9 +18,9 @@ use Rattle.basics.proofs.Test.{all, at}
 use Rattle.cursor.proofs.Bits.{at-most-drop, bytes-small}
 use Rattle.tables.specs.Tables.{dataCount, Lawful, mostPayload, mostList}
 use Rattle.stream.specs.Stream.{alphabet, codeOf, character, known, inMode, bodyWidth, segmentsWidth, lawfulList, counts, lawfulCharacters, fits, LawfulMessage}
-use Rattle.parse.specs.Parse.{digits, digitsInRange, pairs, pairsInRange, characters, inRange, Front, End, Segment, Refusal, headWidth, front, Parsed, Message, Fault, inFront, parse, message}
+use Rattle.parse.specs.Parse.{digits, digitsInRange, pairs, pairsInRange, characters, groupsInRange, Front, End, Segment, Refusal, headWidth, front, Parsed, Message, Fault, inFront, parse, message}
 use Rattle.parse.proofs.Body.{both-left, both-right, both-true, by-mode}
-use Rattle.parse.proofs.Front.{Whole, segment-whole, parse-segment, parse-refusal, parse-end}
+use Rattle.parse.proofs.Front.{WholeSegment, segment-whole, parse-segment, parse-refusal, parse-end}
 use Rattle.parse.proofs.Encode.{data-most}
 use Rattle.parse.proofs.Load.{list-enough}
 
@@ -93,8 +92,8 @@ unfolding each inMode
 any-byte [] = refl
 any-byte (c ∷ cs) = any-byte cs
 
-pub characters-lawful : (mode count : ℕ) (bs : List ℕ) → known mode ≡ true → inRange mode count bs ≡ true → AtMost 1 bs → Chars mode (characters mode count bs)
-unfolding characters inRange
+pub characters-lawful : (mode count : ℕ) (bs : List ℕ) → known mode ≡ true → groupsInRange mode count bs ≡ true → AtMost 1 bs → Chars mode (characters mode count bs)
+unfolding characters groupsInRange
 characters-lawful mode count bs k r b =
     by-mode mode k
     (λ e. rw e (digits-lawful count bs (rw e at r)))
@@ -156,7 +155,7 @@ nothing v bs payload list e =
 
 module _ (fuel v : ℕ) (bs payload list : List ℕ) (b : AtMost 1 bs)
     (later : (xs p l : List ℕ) → AtMost 1 xs → parse fuel v xs ≡ Message p l → Held v (length xs) p l) where
-  after : (mode count : ℕ) → Whole v mode count bs → (rest : Parsed) → parse fuel v (drop (headWidth v mode + bodyWidth mode count) bs) ≡ rest
+  after : (mode count : ℕ) → WholeSegment v mode count bs → (rest : Parsed) → parse fuel v (drop (headWidth v mode + bodyWidth mode count) bs) ≡ rest
       → inFront mode count (characters mode count (drop (headWidth v mode) bs)) rest ≡ Message payload list → Held v (length bs) payload list
   after mode count w (Fault n) r g = absurd (let z : _≡_ {A = ℕ} 0 1 = cc in omega arith)
   after mode count w (Message p l) r g =
