@@ -92,7 +92,7 @@ fn step_no(r: Step) -> u8
     }
 }
 
-fn parsing_no(r: Parsing) -> u8
+pub fn parsing_no(r: Parsing) -> u8
     ensures { λ n. ⌜ n ≡ parsingNumber r ⌝ }
 {
     match r {

@@ -7,16 +7,16 @@ use native.Mathlib.Omega.{arith}
 use Rattle.tables.specs.Tables.{Lawful}
 use Rattle.scan.specs.Received.{received}
 use Rattle.reader.specs.Reader.{Answer, First, Reads, Above, OtherVersion, NoFormat, TwoFormats, NoCodeword, Formatted, AllStand}
-use Rattle.reader.specs.Steps.{Step}
+use Rattle.reader.specs.Steps.{ByNumber}
 use Rattle.reader.specs.Theorems.{PastSize, PastVersions, PastFormats}
 
 -- ---- a step's number says which of the two it is
 
-pub step-passed : {F P : Type 0} (n : ℕ) → Step 0 (suc n) F P → P
+pub step-passed : {F P : Type 0} (n : ℕ) → ByNumber 0 (suc n) F P → P
 step-passed n (inl p) = absurd (let z = p .0 in omega arith)
 step-passed n (inr p) = p .1
 
-pub step-refused : {F P : Type 0} (n : ℕ) → Step (suc n) (suc n) F P → F
+pub step-refused : {F P : Type 0} (n : ℕ) → ByNumber (suc n) (suc n) F P → F
 step-refused n (inl p) = p .1
 step-refused n (inr p) = absurd (let z = p .0 in omega arith)
 

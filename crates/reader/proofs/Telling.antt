@@ -9,6 +9,7 @@ use lib.ListN.{length}
 use Rattle.basics.specs.Lists.{AtMost}
 use Rattle.tables.specs.Tables.{mostPayload, mostList}
 use Rattle.parse.specs.Parse.{Parsed, Message, Fault, message}
+use Rattle.parse.specs.Answer.{parsingNumber}
 use Rattle.parse.specs.Answer as parsed
 use Rattle.parse.specs.declared.Sizes.{Sizes}
 use Rattle.parse.specs.declared.Parsing.{Parsing}
@@ -19,7 +20,7 @@ use Rattle.reader.specs.declared.Answered.{Answered}
 use Rattle.reader.specs.declared.Answered.the-variants.{Read as Told, Refused as Denied}
 use Rattle.reader.specs.declared.Format.the-variants.{NoWord}
 use Rattle.reader.specs.Reader.{Refused, decided, First, Reads, Small, NoVersion, Above, OtherVersion, NoCodeword, AllStand, payloadAfter, listAfter}
-use Rattle.reader.specs.Steps.{parsingNumber, FormatsRead, WithinBounds}
+use Rattle.reader.specs.Steps.{FormatsRead, WithinBounds}
 use Rattle.reader.specs.Theorems.{PastSize, PastVersions, PastFormats}
 use Rattle.reader.specs.Answers.{Answers, Finished, answeredOf}
 use Rattle.reader.proofs.Passing.{then-sized, then-plain, then-named}

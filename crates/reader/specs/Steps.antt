@@ -11,8 +11,6 @@ use Rattle.tables.specs.Version.{Square}
 use Rattle.tables.specs.declared.Fixed.{Fixed}
 use Rattle.tables.specs.declared.Fixed.the-variants as fixed
 use Rattle.code.specs.Code.{Stands, differing, unreadable}
-use Rattle.parse.specs.declared.Parsing.{Parsing}
-use Rattle.parse.specs.declared.Parsing.the-variants.{Whole, Faulty}
 use Rattle.blocks.specs.Blocks.{blockOf, dataOf}
 use Rattle.reader.specs.declared.Checked.{Checked}
 use Rattle.reader.specs.declared.Checked.the-variants.{Fine, TooHigh}
@@ -56,31 +54,27 @@ abbrev pub mendedSums : Mended → Sums
 mendedSums (Within s) = s
 mendedSums Beyond = record { differing = 0; unreadable = 0 }
 
-abbrev pub parsingNumber : Parsing → ℕ
-parsingNumber (Whole sizes) = 0
-parsingNumber (Faulty k) = k
-
 -- a step refuses with its number, since its fault is there, or it is passed
-abbrev pub Step : (number refusal : ℕ) (fault passed : Type 0) → Type 0
-Step number refusal fault passed = ((number ≡ refusal) × fault) ⊎ ((number ≡ 0) × passed)
+abbrev pub ByNumber : (number refusal : ℕ) (fault passed : Type 0) → Type 0
+ByNumber number refusal fault passed = ((number ≡ refusal) × fault) ⊎ ((number ≡ 0) × passed)
 
 -- ---- the steps
 
 -- 7: "matrix length is not s·s for a version 1 to 10"
 abbrev pub SideRead : (m : List ℕ) → Fixed → Type 0
-SideRead m r = Step (fixedNumber r) 7 (NoVersion m) (Square (length m) (fixedVersion r))
+SideRead m r = ByNumber (fixedNumber r) 7 (NoVersion m) (Square (length m) (fixedVersion r))
 
 -- 8: "a module above 2"
 abbrev pub ModulesRead : (m : List ℕ) → Checked → Type 0
-ModulesRead m r = Step (checkedNumber r) 8 (Above m) (AtMost 2 m)
+ModulesRead m r = ByNumber (checkedNumber r) 8 (Above m) (AtMost 2 m)
 
 -- 9, for one copy of the version word
 abbrev pub VersionCopy : (v : ℕ) (m : List ℕ) (copy : ℕ) → Copies → Type 0
-VersionCopy v m copy r = Step (copiesNumber r) 9 ((x : ℕ) × (x ≢ v) × VersionStands v m copy x) ((x : ℕ) → x ≢ v → VersionStands v m copy x → ⊥)
+VersionCopy v m copy r = ByNumber (copiesNumber r) 9 ((x : ℕ) × (x ≢ v) × VersionStands v m copy x) ((x : ℕ) → x ≢ v → VersionStands v m copy x → ⊥)
 
 -- 9: "a version copy stands for another version"
 abbrev pub VersionsRead : (v : ℕ) (m : List ℕ) → Copies → Type 0
-VersionsRead v m r = Step (copiesNumber r) 9 (OtherVersion v m) (OtherVersion v m → ⊥)
+VersionsRead v m r = ByNumber (copiesNumber r) 9 (OtherVersion v m) (OtherVersion v m → ⊥)
 
 -- a format copy stands for the level and the mask, and the two stand for no different words
 pub record FormatRead (v : ℕ) (m : List ℕ) (meta : Meta) : Type 0 where
@@ -122,7 +116,7 @@ pub record AllMended (v level : ℕ) (words flags mended : List ℕ) (s : Sums) 
 -- 12: "a block has no codeword within its bound"
 abbrev pub BlocksMended : (v level : ℕ) (words flags mended : List ℕ) → Mended → Type 0
 BlocksMended v level words flags mended r =
-    Step (mendedNumber r) 12
+    ByNumber (mendedNumber r) 12
     ((b : ℕ) × (b < blockCount v level) × ((c : List ℕ) (t e : ℕ) → Standing v level words flags b c t e → ⊥))
     (AllMended v level words flags mended (mendedSums r))
 
@@ -138,4 +132,4 @@ pub record WithinBounds (v level : ℕ) (bs held : List ℕ) (s : Sums) : Type 0
 
 -- 12: "a block has no codeword within its bound"
 abbrev pub DataMended : (v level : ℕ) (bs held : List ℕ) → Mended → Type 0
-DataMended v level bs held r = Step (mendedNumber r) 12 (NoCodeword v level bs) (WithinBounds v level bs held (mendedSums r))
+DataMended v level bs held r = ByNumber (mendedNumber r) 12 (NoCodeword v level bs) (WithinBounds v level bs held (mendedSums r))

@@ -9,7 +9,7 @@ ghost use Rattle.modules.specs.Modules.{formatPlaces, versionPlaces};
 ghost use Rattle.words.specs.Words.{levelOf, maskOf};
 ghost use Rattle.words.specs.Found.{FormatFound, VersionFound};
 ghost use Rattle.scan.specs.Received.{copied, readable, received};
-ghost use Rattle.reader.specs.Steps.{SideRead, ModulesRead, BlocksMended, VersionCopy, VersionsRead, formatNumber, FormatsRead, Collected, DataMended, parsingNumber};
+ghost use Rattle.reader.specs.Steps.{SideRead, ModulesRead, BlocksMended, VersionCopy, VersionsRead, formatNumber, FormatsRead, Collected, DataMended};
 ghost use Rattle.reader.specs.Answers.{Answers, Finished};
 use corrector::Correction;
 use parse::Parsing;
@@ -212,7 +212,7 @@ fn find_format(m: &[u8], v: usize) -> Format
 }
 
 // The number of a format's refusal.
-fn format_number(f: Format) -> u8
+fn format_no(f: Format) -> u8
     ensures { λ r. ⌜ r ≡ formatNumber f ⌝ }
 {
     match f {
@@ -288,16 +288,6 @@ pub enum Answered {
     Refused(u8),
 }
 
-// The number of a stream's fault.
-fn parsing_number(p: Parsing) -> u8
-    ensures { λ r. ⌜ r ≡ parsingNumber p ⌝ }
-{
-    match p {
-        Parsing::Whole(_) => 0,
-        Parsing::Faulty(k) => k,
-    }
-}
-
 // The last two steps, once the level and the mask are known: the blocks, and the stream of their data codewords, which are put into `held`.
 fn finish(
     m: &[u8],
@@ -318,7 +308,7 @@ fn finish(
     };
     let p = parse::parse(held, v, payload, list);
     let Parsing::Whole(sizes) = p else {
-        return Answered::Refused(parsing_number(p));
+        return Answered::Refused(parse::parsing_no(p));
     };
     Answered::Read(Reading {
         version: v,
@@ -352,7 +342,7 @@ pub fn read(m: &[u8], payload: &mut [u8], list: &mut [u16]) -> Answered
     };
     let f = find_format(m, v);
     let Format::Word(meta) = f else {
-        return Answered::Refused(format_number(f));
+        return Answered::Refused(format_no(f));
     };
     let level = meta.level;
     let mask = meta.mask;

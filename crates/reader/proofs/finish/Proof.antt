@@ -37,8 +37,8 @@ enum-known-p c = search needs
 enum-told-2 : tie.Need-enum-told-2
 enum-told-2 c = search needs
 
-parsing-number-requires : tie.Need-parsing-number-requires
-parsing-number-requires c κs = search needs
+parsing-no-requires : tie.Need-parsing-no-requires
+parsing-no-requires c κs = search needs
 
 same-length-2 : tie.Need-same-length-2
 same-length-2 c = search needs
@@ -55,7 +55,7 @@ returns-2 c =
     let p = t .before .before .before .before .before .before in
     let k = p .before .before .before .before .before in
     told-fault _ _ _ _ _ _ _ _ (step-passed 11 (subst (DataMended _ _ _ _) (k .sums .given .1) (k .before .before .before .before .mend .ensures)))
-    _ _ _ (p .parse .ensures) _ _ (t .enum-told2 .given .1) (c .parsing-number .ensures)
+    _ _ _ (p .parse .ensures) _ _ (t .enum-told2 .given .1) (c .parsing-no .ensures)
 
 same-length-5 : tie.Need-same-length-5
 same-length-5 c = search needs
@@ -86,7 +86,7 @@ finish-spec =
     parse-requires
     enum-known-p
     enum-told-2
-    parsing-number-requires
+    parsing-no-requires
     same-length-2
     same-length-3
     same-length-4

@@ -161,14 +161,14 @@ enum-known-f c = search needs
 enum-told-6 : tie.Need-enum-told-6
 enum-told-6 c = search needs
 
-format-number-requires : tie.Need-format-number-requires
-format-number-requires c κs = search needs
+format-no-requires : tie.Need-format-no-requires
+format-no-requires c κs = search needs
 
 returns-6 : tie.Need-returns-6
 returns-6 c =
     let f = c .before .before .before .find-format in
     let e = c .before .enum-told6 .given .1 in
-    no-format _ _ _ _ _ _ (plain (c .before .before .before .before)) (subst (FormatsRead _ _) e (f .ensures)) (c .format-number .ensures ∙ ap formatNumber e)
+    no-format _ _ _ _ _ _ (plain (c .before .before .before .before)) (subst (FormatsRead _ _) e (f .ensures)) (c .format-no .ensures ∙ ap formatNumber e)
 
 data-requires : tie.Need-data-requires
 data-requires c κs = lawful c
@@ -220,7 +220,7 @@ read-spec =
     find-format-requires
     enum-known-f
     enum-told-6
-    format-number-requires
+    format-no-requires
     returns-6
     data-requires
     array-borrow-prefix-held
