@@ -7,9 +7,8 @@ use lib.ListN.{length}
 use Rattle.basics.specs.Lists.{AtMost}
 use Rattle.basics.specs.Sums as S
 use Rattle.tables.specs.Tables.{room, total, blockCount, checkCount}
-use Rattle.tables.specs.Version.{Square}
+use Rattle.tables.specs.Version.{Square, fixedRefusal, fixedVersion}
 use Rattle.tables.specs.declared.Fixed.{Fixed}
-use Rattle.tables.specs.declared.Fixed.the-variants as fixed
 use Rattle.code.specs.Code.{Stands, differing, unreadable}
 use Rattle.blocks.specs.Blocks.{blockOf, dataOf}
 use Rattle.reader.specs.declared.Checked.{Checked}
@@ -25,14 +24,6 @@ use Rattle.reader.specs.declared.Format.the-variants.{Word, NoWord}
 use Rattle.reader.specs.Reader.{NoVersion, Above, VersionStands, OtherVersion, FormatStands, NoFormat, TwoFormats, NoCodeword, BlockStands, blockWord, blockFlags}
 
 -- ---- this paper's number and values for each case of a step's enum; the number is 0 where the step is passed
-
-abbrev pub fixedNumber : Fixed → ℕ
-fixedNumber (fixed.Version v) = 0
-fixedNumber fixed.NoVersion = 7
-
-abbrev pub fixedVersion : Fixed → ℕ
-fixedVersion (fixed.Version v) = v
-fixedVersion fixed.NoVersion = 0
 
 abbrev pub checkedNumber : Checked → ℕ
 checkedNumber Fine = 0
@@ -62,7 +53,7 @@ ByNumber number refusal fault passed = ((number ≡ refusal) × fault) ⊎ ((num
 
 -- 7: "matrix length is not s·s for a version 1 to 10"
 abbrev pub SideRead : (m : List ℕ) → Fixed → Type 0
-SideRead m r = ByNumber (fixedNumber r) 7 (NoVersion m) (Square (length m) (fixedVersion r))
+SideRead m r = ByNumber (fixedRefusal r) 7 (NoVersion m) (Square (length m) (fixedVersion r))
 
 -- 8: "a module above 2"
 abbrev pub ModulesRead : (m : List ℕ) → Checked → Type 0
