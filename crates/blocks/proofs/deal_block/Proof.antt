@@ -1,4 +1,5 @@
 -- `blocks::deal_block` meets its contract: the data and then the checks are dealt, which deals the block.
+-- The second call finds the output as long as the first did.
 use mathlib.Core.Path.{_≡_, _∙_}
 use Prim.Native.Nat.{_+_, _≤_}
 use native.Mathlib.Omega.{arith}
