@@ -630,8 +630,8 @@ fn examples(r: &mut Run) {
     r.done(start);
 }
 
-/// Symbols that another program drew with a named version, level and mask: version, level, mask, mode, then
-/// the payload's and the matrix's length (high byte first), payload, modules.
+/// Symbols that other programs drew with a named version, level and mask: version, level, mask, mode, then the payload's and the
+/// matrix's length (high byte first), payload, modules (eight to a byte from its highest bit on).
 fn outside(r: &mut Run, file: &[u8]) {
     let start = Instant::now();
     r.kind("outside symbols, forced version, level and mask");
@@ -641,11 +641,12 @@ fn outside(r: &mut Run, file: &[u8]) {
         let count = file[at + 4] as usize * 256 + file[at + 5] as usize;
         let payload = &file[at + 8..at + 8 + count];
         let s = paper::side(v);
-        let modules = &file[at + 8 + count..at + 8 + count + s * s];
-        at += 8 + count + s * s;
+        let bits = &file[at + 8 + count..];
+        let modules: Vec<u8> = (0..s * s).map(|k| bits[k / 8] >> (7 - k % 8) & 1).collect();
+        at += 8 + count + (s * s + 7) / 8;
         let (d, drawn) = r.request(payload, &[mode, count as u16], level, v as u32, mask, s * s);
         r.tell(d.refusal == 0 && drawn == modules, || format!("symbol of version {v} level {level} mask {mask} mode {mode}"));
-        r.whole(modules);
+        r.whole(&modules);
     }
     r.done(start);
 }

@@ -2,7 +2,6 @@
 --     build-more    a store of f i at i takes the first i entries to the first i + 1
 --     build-all     a list of n entries whose first n are built is built
 --     build-get     an entry of what is built
--- Assumes nothing.
 use mathlib.Core.Path.{_≡_, refl, sym, ap, _∙_}
 use mathlib.Core.Logic.{⊎-elim}
 use mathlib.Core.List.{List, [], _∷_, _++_}

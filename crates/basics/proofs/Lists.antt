@@ -1,5 +1,4 @@
 -- Laws of runs of numbers, of lists made from them entry by entry, and of joins.
--- Assumes nothing.
 use mathlib.Core.Path.{_≡_, refl, sym, ap, ap₂, _∙_}
 use mathlib.Core.List.{List, [], _∷_, _++_, map, append-assoc, append-nil}
 use Prim.Native.Nat.{ℕ, zero, suc, _+_, _<_, _≤_}

@@ -1,5 +1,4 @@
 -- What holds of each of finitely many numbers, by one test that antt computes. A statement over two or three numbers is tested at each pair or triple.
--- Assumes nothing.
 use mathlib.Core.Path.{_≡_, subst⁻¹}
 use mathlib.Core.Bool.{Bool, true, false, not}
 use mathlib.Core.Logic.{_≢_, _⊎_, inl, inr}

@@ -1,5 +1,4 @@
 -- Laws of xor that `lib.Bits` lacks: it is associative, and works on each digit.
--- Assumes nothing.
 use mathlib.Core.Path.{_≡_, refl, sym, ap, _∙_}
 use Prim.Native.Nat.{ℕ, _*_, _/_, _%_, _+_, _<_}
 use native.Mathlib.Nat.{add-zero, mod-lt}

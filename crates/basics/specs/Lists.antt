@@ -1,5 +1,4 @@
 -- Plain lists: runs of numbers, filters, joins, tests of every entry.
--- Assumes nothing.
 use mathlib.Core.Bool.{Bool, true, false, cond, _&&_, _||_}
 use mathlib.Core.List.{List, [], _∷_, _++_}
 use Prim.Native.Nat.{ℕ, zero, suc, _<_, _≤_}

@@ -1,5 +1,4 @@
 -- Sums and tallies.
--- Assumes nothing.
 use mathlib.Core.Bool.{Bool, true, false}
 use Prim.Native.Nat.{ℕ, zero, suc, _+_, _-_}
 

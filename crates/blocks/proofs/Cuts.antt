@@ -1,5 +1,4 @@
 -- Parts one after the other: part b of `joined (map f (upTo n))` starts at the sum of the lengths before it, and a list cut at such sums joins to itself.
--- Assumes nothing.
 use mathlib.Core.Path.{_≡_, refl, sym, ap, _∙_}
 use mathlib.Core.Logic.{⊎-elim}
 use mathlib.Core.List.{List, [], _∷_, _++_, map, append-nil}

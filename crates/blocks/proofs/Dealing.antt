@@ -1,6 +1,5 @@
 -- What is sent is gathered to the blocks that were dealt, and their data is the data: `deal-gather`, `data-back`.
 -- A codeword that is sent is looked up by `sent-once`; the data is a list cut at the blocks' starts.
--- Assumes nothing.
 use mathlib.Core.Path.{_≡_, refl, sym, ap, _∙_}
 use mathlib.Core.List.{List, [], _∷_, _++_, map}
 use Prim.Native.Nat.{ℕ, zero, suc, _+_, _-_, _<_, _≤_}
@@ -16,7 +15,7 @@ use Rattle.basics.proofs.Sums.{sum-mono}
 use Rattle.tables.specs.Tables.{total, checkCount, blockCount, dataCount, blockData, blockStart, blockLength, Lawful}
 use Rattle.tables.proofs.Rules.{data-sum, length-sum, block-end}
 use Rattle.code.specs.Code.{plus, divided, lower, generator, checks}
-use Rattle.blocks.specs.Blocks.{withChecks, block, Cell, sentOrder, inOrder, sent, sentPlace, gathered, gatheredAll, blockOffset, blockOf, dataOf}
+use Rattle.blocks.specs.Blocks.{block, Cell, sentOrder, inOrder, sent, sentPlace, gathered, gatheredAll, blockOffset, blockOf, dataOf}
 use Rattle.blocks.specs.Theorems.{DealGather, DataBack}
 use Rattle.blocks.proofs.Cuts.{cut, length-joined, part-joined}
 use Rattle.blocks.proofs.Order.{sent-once}
@@ -75,12 +74,6 @@ module _ (v level : ℕ) where
   pub block-of-gathered : (at : ℕ → ℕ) (b : ℕ) → b < blockCount v level → blockOf v level (gatheredAll v level at) b ≡ gathered v level at b
   unfolding gatheredAll
   block-of-gathered at b h = block-of-joined (gathered v level at) (λ b l. length-gathered at b) b h
-
-  -- the part of the data that is block b's, and its checks
-  pub the-block : (codewords : List ℕ) (b a n : ℕ) → a ≡ blockStart v level b → n ≡ blockData v level b
-      → withChecks (checkCount v level) (take (a + n - a) (drop a codewords)) ≡ block v level codewords b
-  unfolding block
-  the-block codewords b a n e h = rw (the-part codewords a n, e, h)
 
   -- the part of the buffer that is block b's data
   pub the-data : (blocks : List ℕ) (b w n : ℕ) → w ≡ blockOffset v level b → n ≡ blockData v level b

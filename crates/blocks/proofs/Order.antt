@@ -1,6 +1,5 @@
 -- The closed form `sentPlace` is the sent order: each codeword of a block stands where it says, and each place is that of one codeword.
 -- Both are computed for all forty sizes, by a look at each codeword's place and by one pass along the order.
--- Assumes nothing.
 use mathlib.Core.Path.{_≡_, sym, ap, _∙_}
 use mathlib.Core.Bool.{Bool, true, false}
 use mathlib.Core.List.{List, [], _∷_}

@@ -1,5 +1,4 @@
 -- The closed form of a codeword's place in each of its four cases, and what the table's numbers say of it.
--- Assumes nothing.
 use mathlib.Core.Path.{_≡_, refl, _∙_}
 use Prim.Native.Nat.{ℕ, _+_, _-_, _*_, _<_, _≤_}
 use native.Mathlib.Nat.{add-zero, add-assoc}

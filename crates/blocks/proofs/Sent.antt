@@ -1,19 +1,18 @@
 -- Blocks that are dealt one after the other: once the first b are at their places, the next leaves them there, since no two codewords share a
 -- place; and once all are, every place is taken, and what stands there is what is sent.
--- Assumes nothing.
 use mathlib.Core.Path.{_≡_, sym, ap, _∙_}
 use mathlib.Core.Logic.{⊎-elim}
 use mathlib.Core.List.{List}
-use Prim.Native.Nat.{ℕ, _+_, _-_, _<_}
+use Prim.Native.Nat.{ℕ, _+_, _<_}
 use native.Mathlib.Nat.{eq-or-lt-of-le}
 use native.Mathlib.Omega.{arith}
-use lib.ListN.{length, take, drop, getD}
+use lib.ListN.{length, getD}
 use lib.Seq.{ext-getD}
-use Rattle.tables.specs.Tables.{total, checkCount, blockCount, dataCount, blockData, blockStart, blockLength, Lawful}
-use Rattle.blocks.specs.Blocks.{withChecks, block, sent, sentPlace, dealt}
+use Rattle.tables.specs.Tables.{total, blockCount, dataCount, blockLength, Lawful}
+use Rattle.blocks.specs.Blocks.{block, sent, sentPlace, dealt}
 use Rattle.blocks.proofs.Order.{sent-once, place-only}
 use Rattle.blocks.proofs.Walks.{dealt-length, dealt-other, dealt-at}
-use Rattle.blocks.proofs.Dealing.{the-block, length-block, sent-at, length-sent}
+use Rattle.blocks.proofs.Dealing.{length-block, sent-at, length-sent}
 
 -- the first b blocks are at their places
 abbrev pub Sent : (v level : ℕ) (codewords out : List ℕ) (b : ℕ) → Type 0
@@ -48,11 +47,10 @@ module _ (v level : ℕ) (lawful : Lawful v level) (codewords : List ℕ) (long 
       λ j p h l. ⊎-elim (λ (s : j ≡ b). rw s (this p (rw s at l))) (λ m. earlier before j p m l) (eq-or-lt-of-le (omega arith)),
     )
 
-    -- as a turn has it: the block's data is the part of the data from a on
-    pub sent-more : (after : List ℕ) (a n : ℕ) → Sent v level codewords out b → a ≡ blockStart v level b → n ≡ blockData v level b
-        → after ≡ dealt (sentPlace v level b) (withChecks (checkCount v level) (take (a + n - a) (drop a codewords))) out
+    -- as a turn has it
+    pub sent-more : (after xs : List ℕ) → Sent v level codewords out b → xs ≡ block v level codewords b → after ≡ dealt (sentPlace v level b) xs out
         → (length after ≡ total v) × Sent v level codewords after (b + 1)
-    sent-more after a n before ea en e = rw (e, the-block v level codewords b a n ea en) (dealt-block before)
+    sent-more after xs before same e = rw (e, same) (dealt-block before)
 
   pub sent-all : (out : List ℕ) → length out ≡ total v → Sent v level codewords out (blockCount v level) → out ≡ sent v level codewords
   sent-all out full all =

@@ -1,6 +1,5 @@
 -- The cut into blocks, and the order in which their codewords are sent.
--- Assumes nothing.
-use mathlib.Core.Bool.{true, cond}
+use mathlib.Core.Bool.{cond}
 use mathlib.Core.List.{List, [], _++_, map}
 use Prim.Native.Nat.{ℕ, _+_, _-_, _*_}
 use lib.Dec.{ltb, leb}
@@ -18,6 +17,14 @@ withChecks n held = held ++ checks n held
 -- "data fills the blocks in order": block b
 unfoldable pub block : (v level : ℕ) (codewords : List ℕ) (b : ℕ) → List ℕ
 block v level codewords b = withChecks (checkCount v level) (take (blockData v level b) (drop (blockStart v level b) codewords))
+
+-- the checks of block b
+unfoldable pub blockChecks : (v level : ℕ) (codewords : List ℕ) (b : ℕ) → List ℕ
+blockChecks v level codewords b = checks (checkCount v level) (take (blockData v level b) (drop (blockStart v level b) codewords))
+
+-- the data codewords in front, and behind them the checks of each block, in block order: where a block's checks are "written into such a part"
+unfoldable pub dataThenChecks : (v level : ℕ) (codewords : List ℕ) → List ℕ
+dataThenChecks v level codewords = codewords ++ joined (map (blockChecks v level codewords) (upTo (blockCount v level)))
 
 -- a codeword's block, and its place in the block
 pub record Cell : Type 0 where
@@ -57,7 +64,7 @@ sentPlace v level b p = placeBy (dataCount v level) (blockCount v level) (shortL
 
 -- a list with codewords put at their places
 unfoldable pub dealt : (place : ℕ → ℕ) (codewords out : List ℕ) → List ℕ
-dealt place codewords out = walked place (λ k. true) (λ k. getD codewords k 0) (length codewords) out
+dealt place codewords out = walked place (λ k. getD codewords k 0) (length codewords) out
 
 -- ---- and back: what was received, by its place in the sent order, cut into blocks again
 

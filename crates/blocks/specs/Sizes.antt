@@ -1,5 +1,4 @@
 -- The blocks of a version and a level, by the numbers that the code holds of them.
--- Assumes nothing.
 use Prim.Native.Nat.{ℕ, _≤_}
 use Rattle.tables.specs.Tables.{blockCount, dataCount, shortLength, shortBlocks}
 use Rattle.blocks.specs.declared.Sizes.{Sizes}

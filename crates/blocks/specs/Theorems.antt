@@ -1,5 +1,4 @@
 -- What is shown of the sent order beside the contracts, each a statement with a name.
--- Assumes nothing.
 use mathlib.Core.Path.{_≡_}
 use mathlib.Core.List.{List}
 use Prim.Native.Nat.{ℕ, _<_}

@@ -1,14 +1,11 @@
 // The cut into blocks, and the order in which their codewords are sent.
 ghost use mathlib.Core.Path.{_≡_};
 ghost use Prim.Native.Nat.{_+_, _*_, _≤_, _<_};
-ghost use lib.ListN.{length, getD};
+ghost use mathlib.Core.List.{_++_};
+ghost use lib.ListN.{length, getD, take};
 ghost use Rattle.tables.specs.Tables.{Lawful, total, checkCount, blockCount, dataCount, blockData, blockLength};
-ghost use Rattle.code.specs.Code.{checks};
-ghost use Rattle.blocks.specs.Blocks.{withChecks, sent, placeBy, dealt, sentPlace, gathered, gatheredAll, blockOf, dataOf};
+ghost use Rattle.blocks.specs.Blocks.{dataThenChecks, sent, placeBy, dealt, sentPlace, gathered, gatheredAll, blockOf, dataOf};
 ghost use Rattle.blocks.specs.Sizes.{Modest, sizesOf};
-
-// The most checks that the blocks of any version and level have together.
-pub const ALL_CHECKS: usize = 224;
 
 // What the version table says of the blocks of a version and a level: all data codewords, the blocks, the data codewords of a
 // short block, and how many are short. The blocks after those hold one more.
@@ -76,65 +73,94 @@ fn deal(part: &[u8], v: usize, level: usize, b: usize, first: usize, out: &mut [
     }
 }
 
-// Block b, from its data: its checks are written into their part, and all its codewords go to their places in the sent order.
-fn send_block(held: &[u8], made: &mut [u8], v: usize, level: usize, b: usize, out: &mut [u8])
-    requires { ⌜ Lawful v level × ((b < blockCount v level) × (length (now out) ≡ total v)) ⌝ }
-    requires { ⌜ (length (now held) ≡ blockData v level b) × (length (now made) ≡ checkCount v level) ⌝ }
-    ensures { λ _. ⌜ now (made .exit) ≡ checks (checkCount v level) (now (held .entry)) ⌝ }
-    ensures { λ _. ⌜ now (out .exit) ≡ dealt (sentPlace v level b) (withChecks (checkCount v level) (now (held .entry))) (now (out .entry)) ⌝ }
-{
-    code::checks_into(held, made);
-    deal(held, v, level, b, 0, out);
-    deal(made, v, level, b, held.len(), out);
-}
-
-// The codewords of all blocks in the sent order, from the data codewords.
-pub fn send(data: &[u8], v: usize, level: usize, out: &mut [u8])
-    requires { ⌜ Lawful v level × ((length (now «data») ≡ dataCount v level) × (length (now out) ≡ total v)) ⌝ }
-    ensures { λ _. ⌜ now (out .exit) ≡ sent v level (now («data» .entry)) ⌝ }
+// The checks of each block are put behind the data codewords, which stand in front.
+fn add_checks(words: &mut [u8], v: usize, level: usize)
+    requires { ⌜ Lawful v level × (length (now words) ≡ total v) ⌝ }
+    ensures { λ _. ⌜ now (words .exit) ≡ dataThenChecks v level (take (dataCount v level) (now (words .entry))) ⌝ }
 {
     let blocks = tables::blocks(v, level);
     let n = tables::checks(v, level);
-    let mut made = [0u8; ALL_CHECKS];
     let mut a: usize = 0;
-    let mut c: usize = 0;
+    let mut c = tables::data(v, level);
     let mut b: usize = 0;
     while b < blocks {
         let e = a + tables::block_data(v, level, b);
         let d = c + n;
-        send_block(&data[a..e], &mut made[c..d], v, level, b, out);
+        let made = code::remainder(&words[a..e], n);
+        copy(&made[..n], &mut words[c..d]);
         a = e;
         c = d;
         b += 1;
     }
 }
 
+// Block b, its data and its checks, goes to its places in the sent order.
+fn deal_block(held: &[u8], made: &[u8], v: usize, level: usize, b: usize, out: &mut [u8])
+    requires { ⌜ Lawful v level × ((b < blockCount v level) × (length (now out) ≡ total v)) ⌝ }
+    requires { ⌜ (length (now held) ≡ blockData v level b) × (length (now made) ≡ checkCount v level) ⌝ }
+    ensures { λ _. ⌜ now (out .exit) ≡ dealt (sentPlace v level b) (now (held .entry) ++ now (made .entry)) (now (out .entry)) ⌝ }
+{
+    deal(held, v, level, b, 0, out);
+    deal(made, v, level, b, held.len(), out);
+}
+
+// The blocks go to the sent order, from the data codewords in front and each block's checks behind them.
+fn deal_blocks(words: &[u8], v: usize, level: usize, out: &mut [u8])
+    requires { ⌜ Lawful v level × ((length (now words) ≡ total v) × (length (now out) ≡ total v)) ⌝ }
+    requires { ⌜ now words ≡ dataThenChecks v level (take (dataCount v level) (now words)) ⌝ }
+    ensures { λ _. ⌜ now (out .exit) ≡ sent v level (take (dataCount v level) (now (words .entry))) ⌝ }
+{
+    let blocks = tables::blocks(v, level);
+    let n = tables::checks(v, level);
+    let mut a: usize = 0;
+    let mut c = tables::data(v, level);
+    let mut b: usize = 0;
+    while b < blocks {
+        let e = a + tables::block_data(v, level, b);
+        let d = c + n;
+        deal_block(&words[a..e], &words[c..d], v, level, b, out);
+        a = e;
+        c = d;
+        b += 1;
+    }
+}
+
+// The codewords of all blocks in the sent order, from the data codewords in front of `words`, behind which the checks then stand.
+pub fn send(words: &mut [u8], v: usize, level: usize, out: &mut [u8])
+    requires { ⌜ Lawful v level × ((length (now words) ≡ total v) × (length (now out) ≡ total v)) ⌝ }
+    ensures { λ _. ⌜ now (words .exit) ≡ dataThenChecks v level (take (dataCount v level) (now (words .entry))) ⌝ }
+    ensures { λ _. ⌜ now (out .exit) ≡ sent v level (take (dataCount v level) (now (words .entry))) ⌝ }
+{
+    add_checks(words, v, level);
+    deal_blocks(words, v, level, out);
+}
+
 // Block b of what stands in the sent order.
-fn gather_block(sent: &[u8], v: usize, level: usize, b: usize, out: &mut [u8])
+fn gather_block(received: &[u8], v: usize, level: usize, b: usize, out: &mut [u8])
     requires { ⌜ Lawful v level × ((b < blockCount v level) × (length (now out) ≡ blockLength v level b)) ⌝ }
-    requires { ⌜ length (now sent) ≡ total v ⌝ }
-    ensures { λ _. ⌜ now (out .exit) ≡ gathered v level (λ q. getD (now (sent .entry)) q 0) b ⌝ }
+    requires { ⌜ length (now received) ≡ total v ⌝ }
+    ensures { λ _. ⌜ now (out .exit) ≡ gathered v level (λ q. getD (now (received .entry)) q 0) b ⌝ }
 {
     let s = sizes_of(v, level);
     let mut p: usize = 0;
     while p < out.len() {
         let q = place(s, b, p);
-        out[p] = sent[q];
+        out[p] = received[q];
         p += 1;
     }
 }
 
 // What stands in the sent order, as the blocks one after the other.
-pub fn gather(sent: &[u8], v: usize, level: usize, out: &mut [u8])
-    requires { ⌜ Lawful v level × ((length (now sent) ≡ total v) × (length (now out) ≡ total v)) ⌝ }
-    ensures { λ _. ⌜ now (out .exit) ≡ gatheredAll v level (λ q. getD (now (sent .entry)) q 0) ⌝ }
+pub fn gather(received: &[u8], v: usize, level: usize, out: &mut [u8])
+    requires { ⌜ Lawful v level × ((length (now received) ≡ total v) × (length (now out) ≡ total v)) ⌝ }
+    ensures { λ _. ⌜ now (out .exit) ≡ gatheredAll v level (λ q. getD (now (received .entry)) q 0) ⌝ }
 {
     let blocks = tables::blocks(v, level);
     let mut a: usize = 0;
     let mut block: usize = 0;
     while block < blocks {
         let e = a + tables::block_length(v, level, block);
-        gather_block(sent, v, level, block, &mut out[a..e]);
+        gather_block(received, v, level, block, &mut out[a..e]);
         a = e;
         block += 1;
     }

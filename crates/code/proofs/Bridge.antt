@@ -1,6 +1,5 @@
 -- The value of a word at 2^i is the i-th power sum of the theory over the word's bytes and its places' locators: Horner's form, multiplied out, has at place j
 -- the power N - 1 - j of 2^i, which is the i-th power of the locator. So a codeword is a word whose first n power sums vanish.
--- Assumes nothing.
 use mathlib.Core.Path.{_≡_, sym, ap, ap₂, _∙_}
 use mathlib.Core.List.{List, [], _∷_}
 use Prim.Native.Nat.{ℕ, zero, suc, _-_, _*_, _≤_, _<_}
@@ -20,6 +19,7 @@ use Rattle.theory.proofs.Places.{psum}
 use Rattle.theory.proofs.Algebra.{ring, sum-cong, sum-front, zero-⊗, zero-⊕}
 use Rattle.theory.proofs.Gf.{gf256, locators}
 use Rattle.code.specs.Code.{value, valueAfter, Codeword, syndromesOf}
+use Rattle.code.specs.Lanes.{lanes, padded}
 use Rattle.code.proofs.Division.{zeros-behind}
 
 -- one turn of Horner's form, and its end, in any field
@@ -111,13 +111,13 @@ pub sums-codeword : {n : ℕ} {c : List ℕ} → Bytes c → ((i : ℕ) → i < 
 sums-codeword {n} {c} b z = record { bytes = b; zeros = λ i h. value-of-sum i c b (z i h) }
 
 -- what `syndromes` answers: the first n power sums, and zeros
-pub syndromes-get : (n i : ℕ) (w : List ℕ) → i < n → getD (syndromesOf n w) i 0 ≡ value (powN i) w
-unfolding syndromesOf
-syndromes-get n i w h = zeros-behind (build (λ k. value (powN k) w) n) (32 - n) i ∙ build-get (λ k. value (powN k) w) n i h
+pub syndromes-get : (n i : ℕ) (w : List ℕ) → i < n → getD (padded lanes (syndromesOf n w)) i 0 ≡ value (powN i) w
+unfolding syndromesOf padded
+syndromes-get n i w h = zeros-behind (syndromesOf n w) (lanes - length (syndromesOf n w)) i ∙ build-get (λ k. value (powN k) w) n i h
 
-pub syndromes-zero : (n i : ℕ) (w : List ℕ) → n ≤ i → getD (syndromesOf n w) i 0 ≡ 0
-unfolding syndromesOf
-syndromes-zero n i w h = zeros-behind (build (λ k. value (powN k) w) n) (32 - n) i ∙ List·getD-eq-default (build (λ k. value (powN k) w) n) 0 (rw build-length h)
+pub syndromes-zero : (n i : ℕ) (w : List ℕ) → n ≤ i → getD (padded lanes (syndromesOf n w)) i 0 ≡ 0
+unfolding syndromesOf padded
+syndromes-zero n i w h = zeros-behind (syndromesOf n w) (lanes - length (syndromesOf n w)) i ∙ List·getD-eq-default (syndromesOf n w) 0 (rw build-length h)
 
-pub syndromes-sum : (n i : ℕ) (w : List ℕ) → i < n → Bytes w → elt (getD (syndromesOf n w) i 0) ≡ power-sum w i
+pub syndromes-sum : (n i : ℕ) (w : List ℕ) → i < n → Bytes w → elt (getD (padded lanes (syndromesOf n w)) i 0) ≡ power-sum w i
 syndromes-sum n i w h b = ap elt (syndromes-get n i w h) ∙ value-sum i w b

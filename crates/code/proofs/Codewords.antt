@@ -1,6 +1,5 @@
 -- "checks are the remainder of data·x^n": data followed by its checks is a codeword, since the division leaves the value at each root of the generator as it is,
 -- and no other checks make it one, since two words of n codewords with the same n values are equal.
--- Assumes nothing.
 use mathlib.Core.Path.{_≡_, refl, sym, ap, ap₂, _∙_}
 use mathlib.Core.Logic.{⊎-elim, by-cases}
 use mathlib.Core.Bool.{not}

@@ -1,5 +1,4 @@
 -- "The code's distance, n + 1", once over n, and that at most one codeword stands for a block: the theory's statements about power sums, told of lists of codewords.
--- Assumes nothing.
 use mathlib.Core.Path.{_≡_, sym, ap, _∙_}
 use mathlib.Core.Logic.{inl, inr, ⊎-elim}
 use mathlib.Core.List.{List}

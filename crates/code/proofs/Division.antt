@@ -1,6 +1,5 @@
 -- The division by the generator, one data codeword at a time: what is left of the data, with the remainder so far added to its front, is what the
 -- definition still has to divide. Lists are compared entry by entry, so that a remainder may carry zeros behind its n coefficients.
--- Assumes nothing.
 use mathlib.Core.Path.{_≡_, refl, sym, ap, ap₂, _∙_}
 use mathlib.Core.Logic.{by-cases}
 use mathlib.Core.List.{List, [], _∷_, _++_, map}
@@ -10,7 +9,7 @@ use native.Mathlib.Decide.{decLt}
 use native.Mathlib.Numerals.{add-one, one-add}
 use native.Mathlib.Omega.{arith}
 use lib.Bits.{bitXor, xor-zero-r}
-use lib.ListN.{length, take, drop, getD, set, replicate, length-append, length-replicate, List·getD-eq-default, List·getD-map}
+use lib.ListN.{length, take, drop, getD, set, replicate, length-append, length-drop, length-replicate, List·getD-eq-default, List·getD-map}
 use lib.Seq.{ext-getD, getD-drop, getD-take, length-take-le, drop-cons, drop-length}
 use Rattle.basics.specs.Build.{build}
 use Rattle.basics.proofs.Build.{build-length, build-get}
@@ -151,6 +150,24 @@ divide-one low g r s xs d m e q =
     ∙ ap (divided low m)
     (plus-plus xs (drop 1 r) (map (mulN (bitXor d (getD r 0 0))) low) s
     (λ k. q k ∙ ap₂ bitXor (sym (getD-drop 1 r k 0 ∙ ap (λ (j : ℕ). getD r j 0) (one-add k))) (ap (mulN (bitXor d (getD r 0 0))) (sym (e k)) ∙ sym (scaled-get (bitXor d (getD r 0 0)) low k))))
+
+-- behind the n coefficients of the remainder there are zeros, also after one more step
+abbrev pub ZerosFrom : (n : ℕ) (r : List ℕ) → Type 0
+ZerosFrom n r = (k : ℕ) → n ≤ k → getD r k 0 ≡ 0
+
+pub zeros-one : (n : ℕ) (g r s : List ℕ) (d : ℕ) → n ≤ 30 → length r ≡ 33 → g ≡ padded 33 (generator n) → s ≡ build (reduced r g d) 32 ++ replicate 1 0
+    → ZerosFrom n r → ZerosFrom n s
+unfolding reduced
+zeros-one n g r s d hn hr eg es z k h =
+    let short : length (generator n) ≤ suc k = rw (length-generator n) (omega arith) in
+    let past : getD g (suc k) 0 ≡ 0 = ap (λ (l : List ℕ). getD l (suc k) 0) eg ∙ padded-get 33 (generator n) (suc k) ∙ List·getD-eq-default (generator n) 0 short in
+    reduced-get r g s d hr (rw eg (length-padded 33 (generator n) (rw (length-generator n) (omega arith)))) es k
+    ∙ ap₂ bitXor (z (suc k) (omega arith)) (ap (mulN (bitXor d (getD r 0 0))) past ∙ mul-zero (bitXor d (getD r 0 0)))
+
+pub zeros-all : (n : ℕ) (r : List ℕ) → length r ≡ 33 → ZerosFrom n r → drop n r ≡ replicate (33 - n) 0
+zeros-all n r h z =
+    ext-getD 0 (drop n r) (replicate (33 - n) 0) (rw (length-drop, length-replicate, h))
+    (λ i l. getD-drop n r i 0 ∙ z (n + i) (omega arith) ∙ sym (zeros-get (33 - n) i))
 
 -- what is still to be divided once i data codewords are, with the remainder r
 unfoldable pub left : (n : ℕ) (held : List ℕ) (i : ℕ) (r : List ℕ) → List ℕ

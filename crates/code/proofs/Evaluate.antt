@@ -1,6 +1,5 @@
 -- Polynomials by their lists of coefficients, evaluated in a field that the numbers are read in by e: sums, products with a number, and the division by a
 -- monic polynomial, which leaves the value at a root as it is.
--- Assumes nothing.
 use mathlib.Core.Path.{_≡_, refl, sym, ap, _∙_}
 use mathlib.Core.List.{List, [], _∷_, _++_, map}
 use Prim.Native.Nat.{ℕ, zero, suc, _+_}

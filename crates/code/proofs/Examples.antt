@@ -1,5 +1,4 @@
 -- Document 01's examples of the code, computed: the checks of case a, and case g.
--- Assumes nothing.
 use mathlib.Core.Path.{_≡_, refl}
 use mathlib.Core.List.{[], _∷_, map}
 use Rattle.field.specs.Field.{mulN, powN}

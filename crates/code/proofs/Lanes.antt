@@ -2,7 +2,6 @@
 --     fill-none, fill-more      a buffer of zeros that is filled from the front
 --     copied-more, copied-all   a part that is filled with the front of a list
 --     build-same                two lists that are built of equal entries
--- Assumes nothing.
 use mathlib.Core.Path.{_≡_, refl, sym, ap, ap₂, _∙_}
 use mathlib.Core.List.{List, [], _∷_, _++_, append-nil}
 use Prim.Native.Nat.{ℕ, zero, suc, _+_, _-_, _<_}

@@ -5,6 +5,7 @@ pub mod Division
 pub mod Evaluate
 pub mod Examples
 pub mod Lanes
+pub mod Misread
 pub mod Places
 pub mod Reached
 pub mod Value

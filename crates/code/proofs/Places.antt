@@ -1,5 +1,4 @@
 -- The places that pass a test, as a list: as long as the tally says, with each such place in it. So a count of places is a list for the theory.
--- Assumes nothing.
 use mathlib.Core.Path.{_≡_, refl, ap, subst, subst⁻¹, _∙_}
 use mathlib.Core.Logic.{_⊎_, inl, inr, ⊎-elim, by-cases}
 use mathlib.Core.Bool.{Bool, true, false, not, _&&_}

@@ -1,6 +1,5 @@
 -- "The code's distance, n + 1" is reached: zeros before the generator are a codeword that differs from the zero word in n + 1 places. It has no more than
 -- n + 1 coefficients, and were one of them 0, the two would differ in n places and be equal.
--- Assumes nothing.
 use mathlib.Core.Path.{_≡_, refl, sym, ap, _∙_}
 use mathlib.Core.Bool.{Bool, false, not}
 use mathlib.Core.List.{List, _++_}

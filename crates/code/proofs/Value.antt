@@ -1,5 +1,4 @@
 -- The value of a word at x, one codeword after the other from the front, as the loop over 32 powers takes them.
--- Assumes nothing.
 use mathlib.Core.Path.{_≡_, refl, sym, ap, ap₂, _∙_}
 use mathlib.Core.List.{List, [], _∷_, _++_}
 use Prim.Native.Nat.{ℕ, _+_, _<_}

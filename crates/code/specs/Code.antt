@@ -1,16 +1,14 @@
 -- The code of a block. A polynomial is the list of its coefficients, the highest power first.
--- Assumes nothing.
 use mathlib.Core.Path.{_≡_}
 use mathlib.Core.Bool.{not, _&&_}
 use mathlib.Core.List.{List, [], _∷_, _++_, map}
-use Prim.Native.Nat.{ℕ, zero, suc, _+_, _-_, _*_, _≤_, _<_}
+use Prim.Native.Nat.{ℕ, zero, suc, _+_, _*_, _≤_, _<_}
 use lib.Bits.{bitXor}
 use lib.Dec.{eqb}
 use lib.ListN.{length, getD, replicate}
 use Rattle.basics.specs.Build.{build}
 use Rattle.basics.specs.Sums.{tally}
 use Rattle.field.specs.Field.{mulN, powN}
-use Rattle.code.specs.Lanes.{lanes}
 
 -- the value at x, after coefficients whose value is y
 unfoldable pub valueAfter : (x y : ℕ) → List ℕ → ℕ
@@ -54,9 +52,9 @@ pub record Codeword (n : ℕ) (c : List ℕ) : Type 0 where
 unfoldable pub apartAt : (a b : List ℕ) → ℕ
 apartAt a b = tally (length a) (λ j. not (eqb (getD a j 0) (getD b j 0)))
 
--- a word's values at those α^i, and zeros behind them, in as many entries as the array of them has
+-- a word's values at those α^i
 unfoldable pub syndromesOf : (n : ℕ) (word : List ℕ) → List ℕ
-syndromesOf n word = build (λ i. value (powN i) word) n ++ replicate (lanes - n) 0
+syndromesOf n word = build (λ i. value (powN i) word) n
 
 -- "e counts unreadable codewords": the flag of a readable one is 0
 unfoldable pub unreadable : (flags : List ℕ) → ℕ

@@ -1,5 +1,4 @@
 -- What the loops over a fixed number of coefficients leave, entry by entry.
--- Assumes nothing.
 use mathlib.Core.List.{List, _++_}
 use Prim.Native.Nat.{ℕ, zero, suc, _-_}
 use lib.Bits.{bitXor}

@@ -1,3 +1,4 @@
 pub mod Code
 pub mod Lanes
+pub mod Misread
 pub mod Theorems

@@ -1,8 +1,8 @@
 // The code of a block: the checks of data, written into a lent part, and the values of a word at the powers of 2.
 ghost use mathlib.Core.Path.{_≡_};
 ghost use mathlib.Core.List.{_++_};
-ghost use Prim.Native.Nat.{_≤_};
-ghost use lib.ListN.{length, take, replicate};
+ghost use Prim.Native.Nat.{_-_, _≤_};
+ghost use lib.ListN.{length, take, drop, replicate};
 ghost use Rattle.basics.specs.Build.{build};
 ghost use Rattle.field.specs.Field.{powN};
 ghost use Rattle.code.specs.Code.{value, checks, syndromesOf, generator as generatorOf};
@@ -59,10 +59,11 @@ fn reduce(r: [u8; COEFFICIENTS], g: [u8; COEFFICIENTS], d: u8) -> [u8; COEFFICIE
     s
 }
 
-// The remainder of the data times x^n, n coefficients from the front.
-fn remainder(held: &[u8], n: usize) -> [u8; COEFFICIENTS]
+// The remainder of the data times x^n: its n checks, and zeros behind them.
+pub fn remainder(held: &[u8], n: usize) -> [u8; COEFFICIENTS]
     requires { ⌜ n ≤ 30 ⌝ }
     ensures { λ r. ⌜ take n r ≡ checks n (now (held .entry)) ⌝ }
+    ensures { λ r. ⌜ drop n r ≡ replicate (coefficients - n) 0 ⌝ }
 {
     let g = generator(n);
     let mut r: [u8; COEFFICIENTS] = [0; COEFFICIENTS];
@@ -134,7 +135,7 @@ fn values(word: &[u8]) -> [u8; LANES]
 // The n syndromes of the word, and zeros behind them.
 pub fn syndromes(word: &[u8], n: usize) -> [u8; LANES]
     requires { ⌜ n ≤ lanes ⌝ }
-    ensures { λ r. ⌜ r ≡ syndromesOf n (now (word .entry)) ⌝ }
+    ensures { λ r. ⌜ r ≡ padded lanes (syndromesOf n (now (word .entry))) ⌝ }
 {
     let all = values(word);
     let mut r: [u8; LANES] = [0; LANES];

@@ -1,5 +1,4 @@
 -- The unreadable places, taken out of the sums one after the other, from the last place to the first.
--- Assumes nothing.
 use mathlib.Core.Path.{_≡_, refl, sym, ap, _∙_, fun-ext}
 use mathlib.Core.Bool.{Bool, true, false, not, cond}
 use mathlib.Core.List.{List, _∷_}

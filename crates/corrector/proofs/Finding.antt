@@ -1,6 +1,5 @@
 -- The corrector finds the codeword that a block stands for: the run's polynomial has every wrong place for a root, so the suspected places hold all the damage and are few,
 -- and the values that the sums give at them are the damage. The theory's `covers`, `fits` and `magnitude`, told of the rows that the code computes.
--- Assumes nothing.
 use mathlib.Core.Path.{_≡_, refl, sym, ap, ap₂, _∙_, subst}
 use mathlib.Core.Logic.{_⊎_, inl, inr, ⊎-elim, by-cases}
 use mathlib.Core.Bool.{Bool, true, false, not, _||_, _&&_}

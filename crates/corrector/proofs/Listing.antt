@@ -1,5 +1,4 @@
 -- The suspected places, listed from the last to the first: what a turn of the walk adds, and the locators of the next 32 places.
--- Assumes nothing.
 use mathlib.Core.Path.{_≡_, refl, sym, ap, ap₂, subst, _∙_}
 use mathlib.Core.Logic.{_≢_, by-cases}
 use mathlib.Core.Bool.{Bool, true, false, not, _||_}

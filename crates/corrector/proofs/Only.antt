@@ -1,5 +1,4 @@
 -- A block stands for one codeword at the most, so the corrector's promise has one answer.
--- Assumes nothing.
 use mathlib.Core.Path.{refl, sym, ap₂, _∙_}
 use Prim.Native.Nat.{ℕ}
 use Rattle.code.proofs.Distance.{stands-only}

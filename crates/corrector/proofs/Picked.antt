@@ -1,5 +1,4 @@
 -- The places that pass a test: which they are, how many, and that they are roots where each that passes is one.
--- Assumes nothing.
 use mathlib.Core.Path.{_≡_, refl, sym, ap, _∙_}
 use mathlib.Core.Logic.{_⊎_, ⊎-elim}
 use mathlib.Core.Bool.{Bool, true, false, not, cond, _||_, _&&_}

@@ -1,5 +1,4 @@
 -- What a row stands for after each of the steps on lanes.
--- Assumes nothing.
 use mathlib.Core.Path.{_≡_, refl, sym, ap, ap₂, _∙_}
 use mathlib.Core.Logic.{by-cases}
 use mathlib.Core.List.{List, _∷_}

@@ -1,4 +1,4 @@
--- From the numbers of the code to the field of the theory: what a step of the code does is a step of the run. Assumes nothing.
+-- From the numbers of the code to the field of the theory: what a step of the code does is a step of the run.
 use mathlib.Core.Path.{_≡_, refl, sym, ap, _∙_, subst, subst₃, fun-ext}
 use mathlib.Core.Logic.{_≢_}
 use mathlib.Core.List.{List, _∷_}

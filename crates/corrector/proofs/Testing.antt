@@ -1,5 +1,4 @@
 -- A word is a codeword where its syndromes are zeros, and the counts are within the block's length.
--- Assumes nothing.
 use mathlib.Core.Path.{_≡_, refl, sym, ap, ap₂, subst, _∙_}
 use mathlib.Core.Bool.{Bool, true, false, not, _&&_}
 use mathlib.Core.Logic.{by-cases}
@@ -13,14 +12,15 @@ use lib.Seq.{ext-getD, getD-take, length-take-le}
 use borrow.Author.Tests.{eq-eqb}
 use Rattle.basics.specs.Sums.{sum, one, tally}
 use Rattle.code.specs.Code.{Codeword, Stands, syndromesOf, differing, unreadable}
+use Rattle.code.specs.Lanes.{lanes, padded}
 use Rattle.code.proofs.Bridge.{Bytes, syndromes-get, syndromes-zero}
-use Rattle.corrector.specs.Correct.{First, Proposed, Tested}
+use Rattle.corrector.specs.Correct.{FirstNonzero, Proposed, Tested}
 use Rattle.corrector.specs.declared.Counts.{Counts}
 use Rattle.corrector.specs.declared.Correction.{Correction}
 use Rattle.corrector.specs.declared.Correction.the-variants.{Stood, NoneStands}
 use Rattle.corrector.proofs.Counting.{tally-most}
 
-module _ {n : ℕ} {c s : List ℕ} {r : ℕ} (few : n ≤ 30) (e : s ≡ syndromesOf n c) (f : First s r) where
+module _ {n : ℕ} {c s : List ℕ} {r : ℕ} (few : n ≤ 30) (e : s ≡ padded lanes (syndromesOf n c)) (f : FirstNonzero s r) where
   pub zeros-codeword : 32 ≤ r → Bytes c → Codeword n c
   zeros-codeword h b = record { bytes = b; zeros = λ i l. sym (syndromes-get n i c l) ∙ ap (λ t. getD t i 0) (sym e) ∙ f .before i (omega arith) }
 
@@ -53,7 +53,8 @@ none-differs w flags = none-passes _ (λ j. ap (λ b. eqb (getD flags j 0) 0 && 
     last false = refl
 
 -- a block whose syndromes are zeros and whose codewords are all readable stands for itself
-pub clean : {n room : ℕ} {w flags s : List ℕ} {e r : ℕ} → n ≤ 30 → s ≡ syndromesOf n w → First s r → r ≡ 32 → Bytes w → e ≡ unreadable flags → e ≡ 0 → Stands n room w flags w 0 0
+pub clean : {n room : ℕ} {w flags s : List ℕ} {e r : ℕ} → n ≤ 30 → s ≡ padded lanes (syndromesOf n w) → FirstNonzero s r → r ≡ 32 → Bytes w
+    → e ≡ unreadable flags → e ≡ 0 → Stands n room w flags w 0 0
 clean {flags = flags} few p f h b q z = record {
   codeword = zeros-codeword few p f (omega arith) b;
   long = refl;

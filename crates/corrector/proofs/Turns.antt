@@ -1,5 +1,4 @@
 -- A turn of each loop over polynomials: their product by a linear factor, the sums that they make, and their values from the highest coefficient down.
--- Assumes nothing.
 use mathlib.Core.Path.{_≡_, refl, sym, ap, ap₂, _∙_, fun-ext}
 use mathlib.Core.Logic.{by-cases}
 use mathlib.Core.List.{List, _∷_}

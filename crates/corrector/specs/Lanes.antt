@@ -1,5 +1,4 @@
 -- Rows of 32 bytes: as lanes that are worked on at once, and as the polynomials and sequences of the theory.
--- Assumes nothing.
 use mathlib.Core.List.{List}
 use Prim.Native.Nat.{ℕ, zero, suc, _+_}
 use lib.Bits.{bitXor}

@@ -9,11 +9,11 @@ ghost use Rattle.field.specs.Field.{invN};
 ghost use Rattle.field.proofs.Byte.{elt};
 ghost use Rattle.theory.proofs.Sum.{sum};
 ghost use Rattle.theory.proofs.Run.{act, eval, Below};
-ghost use Rattle.theory.proofs.Values.{product, evaluator, slope};
+ghost use Rattle.theory.proofs.Values.{product, evaluator as evaluatorOf, slope};
 ghost use Rattle.theory.proofs.Gf.{gf256};
 ghost use Rattle.corrector.specs.Lanes.{filled, timesPlus, lowered, raised, poly, Running};
 ghost use Rattle.code.specs.Code.{unreadable, differing};
-ghost use Rattle.corrector.specs.Correct.{Asked, Proposed, First, Tested, Corrected};
+ghost use Rattle.corrector.specs.Correct.{Asked, Proposed, FirstNonzero, Tested, Corrected};
 ghost use Rattle.corrector.specs.Places.{Erased, Found, Noted, Grouped, Least, Mended, Magnitudes};
 
 // a b + c, lane by lane.
@@ -344,7 +344,7 @@ fn locator(xs: [u8; 32], count: usize) -> [u8; 32]
 // The sums s multiplied by the polynomial a: at a root of a, what its quotient makes of the sums.
 fn evaluator(a: [u8; 32], s: [u8; 32], count: usize) -> [u8; 32]
     requires { ⌜ (count ≤ 31) × Below gf256 (suc count) (poly a) ⌝ }
-    ensures { λ r. ⌜ ((h : ℕ) → poly r h ≡ evaluator gf256 32 (poly a) (poly s) h) ⌝ }
+    ensures { λ r. ⌜ ((h : ℕ) → poly r h ≡ evaluatorOf gf256 32 (poly a) (poly s) h) ⌝ }
 {
     let mut r: [u8; 32] = [0; 32];
     let mut k: usize = 0;
@@ -519,7 +519,7 @@ fn differ(word: &[u8], flags: &[u8], c: &[u8]) -> usize
 
 // The first lane that is not 0, or 32.
 fn first(s: [u8; 32]) -> usize
-    ensures { λ r. ⌜ First s r ⌝ }
+    ensures { λ r. ⌜ FirstNonzero s r ⌝ }
 {
     let mut i: usize = 0;
     while i < 32 {

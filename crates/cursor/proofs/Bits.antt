@@ -1,5 +1,5 @@
 -- Laws of bits and bytes that the cursor stands on: bounds, a number of n bits, bytes from bits and back.
--- Bits go most significant first, so that each law peels the front of a list. Assumes nothing.
+-- Bits go most significant first, so that each law peels the front of a list.
 use mathlib.Core.Path.{_≡_, refl, sym, ap, ap₂, _∙_}
 use mathlib.Core.Bool.{Bool, true, false, _&&_}
 use mathlib.Core.List.{List, [], _∷_, _++_}

@@ -1,5 +1,4 @@
 -- Bytes with bits put in: what their bits are, how many they are, that they are bytes, and bits put after bits.
--- Assumes nothing.
 use mathlib.Core.Path.{_≡_, refl, sym, ap, ap₂, _∙_}
 use mathlib.Core.List.{List, [], _++_, append-assoc}
 use Prim.Native.Nat.{ℕ, _+_, _-_, _*_, _<_, _≤_}

@@ -1,5 +1,5 @@
 -- A field of bits in one byte, and a field of bits in a number: what a byte-wise cursor takes and puts.
--- A number is cut where its bits are cut, so that each law is one about quotients and remainders by powers of two. Assumes nothing.
+-- A number is cut where its bits are cut, so that each law is one about quotients and remainders by powers of two.
 use mathlib.Core.Path.{_≡_, sym, ap, ap₂, _∙_}
 use mathlib.Core.List.{List, [], _∷_, _++_, append-assoc}
 use Prim.Native.Nat.{ℕ, zero, suc, _+_, _-_, _*_, _/_, _%_, _^_, _<_, _≤_}
@@ -148,6 +148,11 @@ field-part s at k m h pos l =
     ap number (take-add k m (drop at (byteBits s)))
     ∙ number-append (take k (drop at (byteBits s))) (take m (drop k (drop at (byteBits s))))
     ∙ ap₂ (λ (n y : ℕ). number (take k (drop at (byteBits s))) * 2 ^ n + y) (ap length bs ∙ length-bits m _) (ap number bs ∙ number-mod m _)
+
+-- .. from what a turn knows: the bits before it, the power, the turn's bits
+pub field-grown : (s : List ℕ) (at k m v p x : ℕ) → at + k + m ≤ 8 * length s → 0 < m → (at + k) % 8 + m ≤ 8 → v ≡ field s at k → p ≡ 2 ^ m
+    → x ≡ getD s ((at + k) / 8) 0 / 2 ^ (8 - (at + k) % 8 - m) % 2 ^ m → v * p + x ≡ field s at (k + m)
+field-grown s at k m v p x h pos l ev ep ex = rw (ev, ep, ex) (sym (field-part s at k m h pos l))
 
 -- the number of its first bits, with room made for m more
 pub field-shifted : (s : List ℕ) (at k m : ℕ) → at + k + m ≤ 8 * length s → 0 < m → (at + k) % 8 + m ≤ 8 → k + m ≤ 16 → field s at k * 2 ^ m < 4294967296

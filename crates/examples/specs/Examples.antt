@@ -1,5 +1,4 @@
 -- The paper's examples at the edges, a to l: one list, and one statement that what the definitions give is what the paper names.
--- Assumes nothing.
 use mathlib.Core.Path.{_≡_}
 use mathlib.Core.List.{List, [], _∷_, _++_, map}
 use Prim.Native.Nat.{ℕ}

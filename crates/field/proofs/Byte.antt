@@ -1,6 +1,5 @@
 -- The bytes as a field: the numbers below 256, with the laws of `Laws.antt`.
 -- `elt` and `val` go between a number of a program and the byte; `elt` is total, so a list of a program's numbers maps to one of bytes with no proof.
--- Assumes nothing.
 use mathlib.Core.Path.{_≡_, sym, ap, _∙_}
 use Prim.Native.Nat.{ℕ, Fin, _%_, _<_}
 use native.Mathlib.Nat.{mod-lt, mod-eq-of-lt}

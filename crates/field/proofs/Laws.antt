@@ -1,7 +1,6 @@
 -- The laws of the field. The product is additive in each operand, for all numbers; so a law that is additive in each of its
 -- variables holds of all bytes where it holds of the eight bytes with one bit set, which antt tests: so for `mul-comm` and `mul-one`.
 -- The other laws are shown by the digits of an operand, and the inverses and the order of x by a test of each.
--- Assumes nothing.
 use mathlib.Core.Path.{_≡_, refl, sym, ap, _∙_}
 use mathlib.Core.Logic.{_≢_}
 use Prim.Native.Nat.{ℕ, zero, suc, _+_, _-_, _*_, _/_, _%_, _^_, _<_}

@@ -1,6 +1,5 @@
 -- The field of 256 elements: bytes, with xor as the sum, and as the product that of polynomials over two elements
 -- modulo x^8 + x^4 + x^3 + x^2 + 1, which by its bits is the number 0x11D.
--- Assumes nothing.
 use Prim.Native.Nat.{ℕ, zero, suc, _*_, _/_, _%_}
 use lib.Bits.{bitXor}
 

@@ -1,5 +1,4 @@
 -- Alignment centres: at most three, and each leaves room for its pattern; one pattern more keeps the matrix's length.
--- Assumes nothing.
 use mathlib.Core.Path.{_≡_, refl, ap, _∙_}
 use mathlib.Core.Logic.{⊎-elim}
 use mathlib.Core.Bool.{Bool, true, false, cond}
@@ -9,14 +8,16 @@ use native.Mathlib.Nat.{not-suc-le-zero, mod-lt}
 use native.Mathlib.Numerals.{add-one}
 use native.Mathlib.Omega.{arith}
 use lib.Dec.{T, leb, leb→le}
-use lib.ListN.{length, getD}
+use lib.ListN.{length, getD, set}
 use Rattle.basics.specs.Bits.{bitOf}
+use Rattle.basics.specs.Walk.{walked}
+use Rattle.basics.proofs.Walk.{walked-length}
 use Rattle.basics.proofs.Test.{all, at, grid, both, either, either-cases}
 use Rattle.tables.specs.Tables.{side, centres}
-use Rattle.modules.specs.Kinds.{stamped, squarePlace, alignmentDark, atFinder, alignedOne, aligned}
+use Rattle.modules.specs.Kinds.{squarePlace, timingPlace, timingValue, formatPlace, formatValue, alignmentDark, atFinder, alignedOne, aligned, frameOn}
 use Rattle.modules.proofs.Open.{every}
 use Rattle.modules.proofs.Tests.{versions, at-version, both-left, both-right}
-use Rattle.modules.proofs.Stamps.{stamped-length, row-lt}
+use Rattle.modules.proofs.Places.{row-lt}
 
 few-tested : T (versions (λ v. leb (length (centres v)) 3))
 unfolding every
@@ -60,8 +61,8 @@ aligned-one-length v t out =
     let n = length (centres v) in
     let i = getD (centres v) (t / n) 0 in
     let j = getD (centres v) (t % n) 0 in
-    either-length (atFinder n (t / n) (t % n)) out (stamped (squarePlace (side v) (i - 2) (j - 2) 5) (bitOf alignmentDark) 25 out)
-    (stamped-length (squarePlace (side v) (i - 2) (j - 2) 5) (bitOf alignmentDark) 25 out)
+    either-length (atFinder n (t / n) (t % n)) out (walked (squarePlace (side v) (i - 2) (j - 2) 5) (bitOf alignmentDark) 25 out)
+    (walked-length (squarePlace (side v) (i - 2) (j - 2) 5) (bitOf alignmentDark) out 25)
 
 pub aligned-length : (v t : ℕ) (out : List ℕ) → length (aligned v t out) ≡ length out
 unfolding aligned
@@ -99,7 +100,7 @@ aligned-skip v t n out e f = rw (rw e at f)
 
 pub aligned-square : (v t n i j s : ℕ) (out out′ : List ℕ) → n ≡ length (centres v) → atFinder n (t / n) (t % n) ≡ false
     → i ≡ getD (centres v) (t / n) 0 → j ≡ getD (centres v) (t % n) 0 → s ≡ side v
-    → out′ ≡ stamped (squarePlace s (i - 2) (j - 2) 5) (bitOf alignmentDark) 25 out → out′ ≡ alignedOne v t out
+    → out′ ≡ walked (squarePlace s (i - 2) (j - 2) 5) (bitOf alignmentDark) 25 out → out′ ≡ alignedOne v t out
 unfolding alignedOne
 aligned-square v t n i j s out out′ e f hi hj hs q =
     q ∙ rw (hs, hi, hj, e, rw e at f)
@@ -124,3 +125,10 @@ room v n t i j s least most e h hi hj hs =
 
 pub squared : (n : ℕ) → n ≤ 3 → n * n ≤ 9
 squared n h = leb→le _ _ (at 4 (λ n. leb (n * n) 9) tt n (omega arith))
+
+-- timing, alignment, format bits and one store, from the numbers and the matrices as the code has them
+pub frame-made : (v s p : ℕ) (out out₁ out₂ out₃ : List ℕ) → s ≡ side v → out₁ ≡ walked (timingPlace s) timingValue (2 * (s - 16)) out
+    → out₂ ≡ aligned v (length (centres v) * length (centres v)) out₁ → out₃ ≡ walked (formatPlace v) formatValue 30 out₂
+    → p ≡ (s - 8) * s + 8 → set out₃ p 1 ≡ frameOn v out
+unfolding frameOn
+frame-made v s p out out₁ out₂ out₃ sized timed aligns formatted at = rw (formatted, aligns, timed, at, sized)

@@ -1,5 +1,4 @@
 -- The definitions against two independent programs: the order of the data modules, and the colour of every module, version by version.
--- Assumes nothing.
 use mathlib.Core.Path.{_≡_, refl}
 use mathlib.Core.List.{List, [], _∷_, map}
 use Prim.Native.Nat.{ℕ, _+_, _*_, _/_, _%_}

@@ -1,5 +1,4 @@
 -- The walk that fills: `putAll` in two stretches, its length and count, and what it leaves over a version's kinds: `filled-all`.
--- Assumes nothing.
 use mathlib.Core.Path.{_≡_, refl, sym, ap, _∙_}
 use mathlib.Core.Logic.{_⊎_, inl, inr, ⊎-elim}
 use mathlib.Core.Bool.{Bool, true, false, cond}

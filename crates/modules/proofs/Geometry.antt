@@ -1,6 +1,5 @@
 -- The layout's laws, read off the computed tests: `placement`, that words have places of their own, and
 -- what stands at each data module and each word's place of a drawn symbol.
--- Assumes nothing.
 use mathlib.Core.Path.{_≡_, refl, sym, ap, ap₂, subst, _∙_}
 use mathlib.Core.Logic.{⊎-elim}
 use mathlib.Core.Bool.{Bool, true, false, not, cond, _&&_, _||_}

@@ -1,6 +1,5 @@
 -- Those of a list that pass a test, by their number: the k-th kept entry stands at the place of the k-th pass, and the bits that fill
 -- the passes stand there in their order. `nth` and `rank` lead from a number to its place and back.
--- Assumes nothing.
 use mathlib.Core.Path.{_≡_, refl, sym, ap, subst, _∙_}
 use mathlib.Core.Bool.{Bool, true, false, cond}
 use mathlib.Core.List.{List, [], _∷_, map}

@@ -5,6 +5,6 @@ pub mod Filling
 pub mod Geometry
 pub mod Kept
 pub mod Open
-pub mod Stamps
+pub mod Places
 pub mod Tests
 pub mod Tints

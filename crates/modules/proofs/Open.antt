@@ -1,5 +1,4 @@
 -- One name that opens every definition that a module's place or colour goes by, for the tests that compute.
--- Assumes nothing.
 use Rattle.basics.specs.Lists
 use Rattle.basics.specs.Bits
 use Rattle.tables.specs.Tables

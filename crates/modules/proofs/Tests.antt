@@ -1,6 +1,5 @@
 -- The layout of each version, computed: the walk leads over all modules but those of column 6 and back, column 6 has no data module,
 -- and the places of the words are the words' modules.
--- Assumes nothing.
 use mathlib.Core.Bool.{Bool, true, false, not}
 use Prim.Native.Nat.{ℕ, zero, suc, _+_, _-_, _*_, _/_, _%_, _≤_}
 use native.Mathlib.Omega.{arith}

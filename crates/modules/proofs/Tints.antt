@@ -1,6 +1,5 @@
 -- Kinds to colours: a row's flips as bits, the colours of all kinds as the bits of two words, row after row, and `finished-laid`:
 -- what is finished over a laid matrix is the symbol.
--- Assumes nothing.
 use mathlib.Core.Path.{_≡_, refl, sym, ap, ap₂, _∙_}
 use mathlib.Core.Bool.{cond}
 use mathlib.Core.List.{List, [], _∷_, _++_, map, append-assoc}

@@ -1,5 +1,4 @@
 -- What is to be shown of the layout: "Placement meets each data module exactly once", and writer and reader have one geometry.
--- Assumes nothing.
 use mathlib.Core.Path.{_≡_}
 use mathlib.Core.Bool.{true}
 use mathlib.Core.List.{List}

@@ -1,5 +1,4 @@
 -- What is laid once for all masks, and what finishes it for one: a number for each module.
--- Assumes nothing.
 use mathlib.Core.Bool.{Bool, true, false, cond, _&&_, _||_}
 use mathlib.Core.List.{List, map}
 use Prim.Native.Nat.{ℕ, zero, suc, _+_, _-_, _*_, _/_, _%_}
@@ -8,6 +7,7 @@ use lib.Dec.{leb, eqb}
 use lib.ListN.{length, getD, set}
 use Rattle.basics.specs.Bits.{bitOf, byteBits, lowFirst}
 use Rattle.basics.specs.Lists.{upTo}
+use Rattle.basics.specs.Walk.{walked}
 use Rattle.tables.specs.Tables.{side, centres}
 use Rattle.words.specs.Words.{formatWord, formatBits, versionWord}
 use Rattle.modules.specs.Modules.{Module, Finder, Timing, Alignment, Dark, Format, Version, Data, met, fill, walk, step, flips, formatPlaces, versionPlaces}
@@ -50,11 +50,7 @@ rowFlips mask i = lowFirst (map (flips mask i) (upTo 60))
 unfoldable pub tinted : (plain turned row j x : ℕ) → ℕ
 tinted plain turned row j x = bitOf (cond (eqb (bitOf row j) 0) plain turned) x
 
--- ---- stores, one a turn: at turn t the value t at the place t
-
-unfoldable pub stamped : (place value : ℕ → ℕ) (n : ℕ) (out : List ℕ) → List ℕ
-stamped place value zero out = out
-stamped place value (suc t) out = set (stamped place value t out) (place t) (value t)
+-- ---- what is stored, one module a turn of a walk
 
 -- module t of a square of side w, row by row
 unfoldable pub squarePlace : (s top left w t : ℕ) → ℕ
@@ -93,7 +89,7 @@ alignedOne v t out =
     let n = length (centres v) in
     let i = getD (centres v) (t / n) 0 in
     let j = getD (centres v) (t % n) 0 in
-    cond (atFinder n (t / n) (t % n)) out (stamped (squarePlace (side v) (i - 2) (j - 2) 5) (bitOf alignmentDark) 25 out)
+    cond (atFinder n (t / n) (t % n)) out (walked (squarePlace (side v) (i - 2) (j - 2) 5) (bitOf alignmentDark) 25 out)
 
 unfoldable pub aligned : (v t : ℕ) (out : List ℕ) → List ℕ
 aligned v zero out = out
@@ -102,16 +98,16 @@ aligned v (suc t) out = alignedOne v t (aligned v t out)
 -- three finders with their separators
 unfoldable pub findersOn : (s : ℕ) (out : List ℕ) → List ℕ
 findersOn s out =
-    stamped (squarePlace s (s - 8) 0 8) (bitOf 0x7F415D5D5D417F00) 64
-    (stamped (squarePlace s 0 (s - 8) 8) (bitOf 0xFE82BABABA82FE) 64 (stamped (squarePlace s 0 0 8) (bitOf 0x7F415D5D5D417F) 64 out))
+    walked (squarePlace s (s - 8) 0 8) (bitOf 0x7F415D5D5D417F00) 64
+    (walked (squarePlace s 0 (s - 8) 8) (bitOf 0xFE82BABABA82FE) 64 (walked (squarePlace s 0 0 8) (bitOf 0x7F415D5D5D417F) 64 out))
 
 -- timing, alignment, format bits, and the module that is always dark
 unfoldable pub frameOn : (v : ℕ) (out : List ℕ) → List ℕ
 frameOn v out =
     let s = side v in
-    let timed = stamped (timingPlace s) timingValue (2 * (s - 16)) out in
+    let timed = walked (timingPlace s) timingValue (2 * (s - 16)) out in
     let n = length (centres v) in
-    set (stamped (formatPlace v) formatValue 30 (aligned v (n * n) timed)) ((s - 8) * s + 8) 1
+    set (walked (formatPlace v) formatValue 30 (aligned v (n * n) timed)) ((s - 8) * s + 8) 1
 
 -- ---- filling
 

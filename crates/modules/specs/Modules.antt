@@ -1,5 +1,4 @@
 -- What each module is, the order of the data modules, the masks, and the finished symbol. A place (i, j) is also the number i·s + j.
--- Assumes nothing.
 use mathlib.Core.Bool.{Bool, true, false, cond, _&&_, _||_, not}
 use mathlib.Core.List.{List, [], _∷_, _++_, map}
 use Prim.Native.Nat.{ℕ, _+_, _-_, _*_, _/_, _%_, min, max}

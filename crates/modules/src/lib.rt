@@ -8,15 +8,13 @@ ghost use lib.ListN.{length, getD, drop, replicate};
 ghost use Rattle.basics.specs.Bits.{bitOf, byteBits};
 ghost use Rattle.basics.specs.Build.{build};
 ghost use Rattle.basics.specs.Lists.{AtMost};
+ghost use Rattle.basics.specs.Walk.{walked};
 ghost use Rattle.tables.specs.Tables.{side as sideOf, centres, lastVersion, Lawful};
 ghost use Rattle.modules.specs.Modules.{formatPlaces, versionPlaces, pairColumn};
-ghost use Rattle.modules.specs.Kinds.{kinds as kindsOf, rowFlips, stamped, squarePlace, timingPlace, timingValue, formatPlace, formatValue, versionPlace, versionValue, atFinder, alignedOne, aligned, findersOn, frameOn, laid, finished, tinted, filling, put as putOne, putAll, pairPlace};
+ghost use Rattle.modules.specs.Kinds.{kinds as kindsOf, rowFlips, squarePlace, timingPlace, timingValue, formatPlace, formatValue, versionPlace, versionValue, atFinder, alignedOne, aligned, findersOn, frameOn, laid, finished, tinted, filling, put as putOne, putAll, pairPlace};
 
-// The kind of a data module that is not filled.
+// The kind of a data module that is not filled, or filled by 0.
 const DATA: u8 = 2;
-
-// The kind of a data module of the surplus: its bit is 0, and the mask flips it as any other.
-const SURPLUS: u8 = 2;
 
 // The kind of bit 0 of the format word.
 const FORMAT: usize = 4;
@@ -139,7 +137,7 @@ fn clear(out: &mut [u8])
 // A square of side w: dark where a bit is set, row by row.
 fn square(out: &mut [u8], s: usize, top: usize, left: usize, w: usize, dark: u64)
     requires { ⌜ (1 ≤ w) × ((w ≤ 8) × ((s ≤ 57) × ((top + w ≤ s) × ((left + w ≤ s) × (s * s ≤ length (now out)))))) ⌝ }
-    ensures { λ _. ⌜ now (out .exit) ≡ stamped (squarePlace s top left w) (bitOf dark) (w * w) (now (out .entry)) ⌝ }
+    ensures { λ _. ⌜ now (out .exit) ≡ walked (squarePlace s top left w) (bitOf dark) (w * w) (now (out .entry)) ⌝ }
 {
     let n = w * w;
     let mut t: usize = 0;
@@ -165,7 +163,7 @@ fn timing_place(s: usize, t: usize) -> usize
 // Row 6 and column 6 between the finders, dark at even index.
 fn timing(out: &mut [u8], s: usize)
     requires { ⌜ (21 ≤ s) × ((s ≤ 57) × (s * s ≤ length (now out))) ⌝ }
-    ensures { λ _. ⌜ now (out .exit) ≡ stamped (timingPlace s) timingValue (2 * (s - 16)) (now (out .entry)) ⌝ }
+    ensures { λ _. ⌜ now (out .exit) ≡ walked (timingPlace s) timingValue (2 * (s - 16)) (now (out .entry)) ⌝ }
 {
     let n = 2 * (s - 16);
     let mut t: usize = 0;
@@ -179,7 +177,7 @@ fn timing(out: &mut [u8], s: usize)
 // The kinds of the format word's bits, in both copies.
 fn formats(out: &mut [u8], v: usize)
     requires { ⌜ (1 ≤ v) × ((v ≤ lastVersion) × (sideOf v * sideOf v ≤ length (now out))) ⌝ }
-    ensures { λ _. ⌜ now (out .exit) ≡ stamped (formatPlace v) formatValue 30 (now (out .entry)) ⌝ }
+    ensures { λ _. ⌜ now (out .exit) ≡ walked (formatPlace v) formatValue 30 (now (out .entry)) ⌝ }
 {
     let mut t: usize = 0;
     while t < 30 {
@@ -192,7 +190,7 @@ fn formats(out: &mut [u8], v: usize)
 // The bits of the version word, in both copies.
 fn versions(out: &mut [u8], v: usize, word: u64)
     requires { ⌜ (7 ≤ v) × ((v ≤ lastVersion) × (sideOf v * sideOf v ≤ length (now out))) ⌝ }
-    ensures { λ _. ⌜ now (out .exit) ≡ stamped (versionPlace v) (versionValue word) 36 (now (out .entry)) ⌝ }
+    ensures { λ _. ⌜ now (out .exit) ≡ walked (versionPlace v) (versionValue word) 36 (now (out .entry)) ⌝ }
 {
     let mut t: usize = 0;
     while t < 36 {
@@ -339,7 +337,7 @@ pub fn finish(base: &[u8], v: usize, level: usize, mask: usize, out: &mut [u8])
     }
 }
 
-// The kind of a data module that codeword bit n fills, 0 past the last.
+// The kind of a data module that codeword bit n fills. Past the last it is one of the surplus: its bit is 0, and the mask flips it as any other.
 fn filled(codewords: &[u8], n: usize) -> u8
     ensures { λ r. ⌜ r ≡ 2 + getD (byteBits (now (codewords .entry))) n 0 ⌝ }
 {
@@ -347,7 +345,7 @@ fn filled(codewords: &[u8], n: usize) -> u8
     if q < codewords.len() {
         return DATA + bit_of(wide(codewords[q]), 7 - n % 8);
     }
-    SURPLUS
+    DATA
 }
 
 // A module is met: a data module takes codeword bit n. Answers how many bits are used then.

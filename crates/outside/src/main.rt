@@ -1,13 +1,13 @@
-// Draws the symbols that another program drew, with the same version, level and mask, and reads each back; then reads a symbol after damage at its
-// bounds and past them. The file `symbols` has, for each: version, level, mask, mode, the payload's and the matrix's length (high byte first), the
-// payload and the modules.
+// Draws the symbols that other programs drew, one of each version and level, with the same mask, and reads each back; then reads a symbol after damage at its
+// bounds and past them. The file `symbols` has, for each: version, level, mask, mode, the payload's and the matrix's length (high byte first), the payload, and
+// the modules, eight to a byte from its highest bit on. Twenty are libqrencode 4.1.1's, drawn alike by python-qrcode 7.4.2.
 ghost use Prim.Native.Nat.{_+_, _<_, _≤_};
 ghost use lib.ListN.{length};
 use libc::STDOUT_FILENO;
 use reader::Answered;
 use writer::Drawing;
 
-const SYMBOLS: usize = 20;
+const SYMBOLS: usize = 40;
 
 fn say(text: &[u8]) {
     io::write_all(STDOUT_FILENO, text);
@@ -17,10 +17,6 @@ fn wide(x: u8) -> usize
     ensures { λ r. ⌜ r < 256 ⌝ }
 {
     x as usize
-}
-
-fn number(x: u8) -> u16 {
-    x as u16
 }
 
 // Whether the first n bytes are these.
@@ -74,33 +70,91 @@ fn draw_alike(
     }
 }
 
+// A byte of the file; 0 past its end.
+fn byte_at(file: &[u8], at: usize) -> usize
+    ensures { λ r. ⌜ r < 256 ⌝ }
+{
+    if at < file.len() { wide(file[at]) } else { 0 }
+}
+
+// A number of two bytes, the high one first.
+fn number_at(file: &[u8], at: usize) -> usize
+    requires { ⌜ at ≤ 65542 ⌝ }
+    ensures { λ r. ⌜ r < 65536 ⌝ }
+{
+    let high = byte_at(file, at);
+    let low = byte_at(file, at + 1);
+    256 * high + low
+}
+
+// The k-th of modules that stand eight to a byte.
+fn module_at(bits: &[u8], k: usize) -> u8 {
+    if (byte_at(bits, k / 8) >> (7 - k % 8)) % 2 == 1 {
+        1
+    } else {
+        0
+    }
+}
+
+// The modules that stand eight to a byte; 0 past their end.
+fn unpack(bits: &[u8], modules: &mut [u8]) {
+    let mut k: usize = 0;
+    while k < modules.len() {
+        modules[k] = module_at(bits, k);
+        k += 1;
+    }
+}
+
+fn say_level(level: usize) {
+    match level {
+        0 => say(b"-L: "),
+        1 => say(b"-M: "),
+        2 => say(b"-Q: "),
+        _ => say(b"-H: "),
+    }
+}
+
+// Whether a symbol of so many modules is drawn alike and read back.
+fn try_symbol(
+    version: usize,
+    level: usize,
+    mask: usize,
+    mode: u16,
+    payload: &[u8],
+    bits: &[u8],
+    size: usize,
+)
+    requires { ⌜ size ≤ 3249 ⌝ }
+{
+    let mut modules = [0u8; 3249];
+    unpack(bits, &mut modules);
+    let list = [mode, (payload.len() % 65536) as u16];
+    io::print_decimal(STDOUT_FILENO, version as u64);
+    say_level(level);
+    draw_alike(payload, &list, level, version, mask, &modules[..size]);
+    read_back(&modules[..size], payload);
+}
+
 // The symbol at a place of the file; the place of the next.
 fn try_one(file: &[u8], at: usize) -> usize
     requires { ⌜ (at ≤ length (now file)) × (length (now file) ≤ 65536) ⌝ }
     ensures { λ r. ⌜ r ≤ length (now (file .entry)) ⌝ }
 {
-    let end = file.len();
-    if end - at < 8 {
-        return end;
-    }
-    let version = wide(file[at]);
-    let level = wide(file[at + 1]);
-    let mask = wide(file[at + 2]);
-    let mode = number(file[at + 3]);
-    let count = 256 * wide(file[at + 4]) + wide(file[at + 5]);
-    let size = 256 * wide(file[at + 6]) + wide(file[at + 7]);
+    let size = number_at(file, at + 6);
     let p = at + 8;
-    if end - p < count {
-        return end;
+    let q = p + number_at(file, at + 4);
+    let e = q + (size + 7) / 8;
+    if file.len() < e {
+        return file.len();
     }
-    let q = p + count;
-    if end - q < size {
-        return end;
+    if size > 3249 {
+        return file.len();
     }
-    let e = q + size;
-    let list = [mode, (count % 65536) as u16];
-    draw_alike(&file[p..q], &list, level, version, mask, &file[q..e]);
-    read_back(&file[q..e], &file[p..q]);
+    let version = byte_at(file, at);
+    let level = byte_at(file, at + 1);
+    let mask = byte_at(file, at + 2);
+    let mode = (byte_at(file, at + 3) % 256) as u16;
+    try_symbol(version, level, mask, mode, &file[p..q], &file[q..e], size);
     e
 }
 

@@ -1,5 +1,4 @@
 -- What the writer and the reader answer, as the numbers of the entries: the same values, and each small enough for 32 bits.
--- Assumes nothing.
 use mathlib.Core.Path.{_≡_, sym, ap, subst, _∙_}
 use mathlib.Core.List.{List}
 use Prim.Native.Nat.{ℕ, _^_, _/_, _<_}
@@ -8,12 +7,12 @@ use lib.ListN.{length}
 use Rattle.tables.specs.Tables.{side}
 use Rattle.writer.specs.Writer.{Request, Drawing, draw, request}
 use Rattle.writer.specs.Writer as spec
-use Rattle.writer.specs.Answer.{Writes, answer}
+use Rattle.writer.specs.Answer.{Writes, drawingGiven}
 use Rattle.writer.specs.declared.Symbol.{Symbol}
 use Rattle.writer.specs.declared.Drawing as declared
 use Rattle.writer.specs.declared.Drawing.the-variants as drawing
 use Rattle.reader.specs.Reader.{Answer, Read, Refused, Reads}
-use Rattle.reader.specs.Answers.{Answers, answered}
+use Rattle.reader.specs.Answers.{Answers, answeredOf}
 use Rattle.reader.specs.declared.Reading.{Reading}
 use Rattle.reader.specs.declared.Answered.{Answered}
 use Rattle.reader.specs.declared.Answered.the-variants.{Read as Told, Refused as Denied}
@@ -23,7 +22,8 @@ use Rattle.panel.specs.Panel.{WriteAnswers, ReadAnswers, drawnOf, readin
 
 -- ---- the reader
 
-pub record Small (r : Reading) : Type 0 where
+-- each number of a reading is one of 32 bits
+pub record Narrow (r : Reading) : Type 0 where
   pub version : r .version < 2 ^ 32
   pub level : r .level < 2 ^ 32
   pub mask : r .mask < 2 ^ 32
@@ -33,11 +33,11 @@ pub record Small (r : Reading) : Type 0 where
   pub unreadable : r .unreadable < 2 ^ 32
 
 module _ (m payload list payload′ list′ : List ℕ) (a : Answered) (done : Answers m payload list a payload′ list′) where
-  small-of : (r : Reading) (x : Answer) → Reads m (length payload) (length list) x → Told r ≡ answered x → Small r
-  small-of r (Read v l k p q t e) reads same =
+  narrow-of : (r : Reading) (x : Answer) → Reads m (length payload) (length list) x → Told r ≡ answeredOf x → Narrow r
+  narrow-of r (Read v l k p q t e) reads same =
       let y : r ≡ record { version = v; level = l; mask = k; payload = length p; segments = length q / 2; differing = t; unreadable = e } = cc in
       let b = reads-lawful m (length payload) (length list) v l k t e p q reads in
-      subst Small (sym y)
+      subst Narrow (sym y)
       (record {
         version = omega (arith, b .lawful .most);
         level = omega (arith, b .lawful .levels);
@@ -47,10 +47,10 @@ module _ (m payload list payload′ list′ : List ℕ) (a : Answered) (done : A
         differing = omega (arith, b .differing-most);
         unreadable = omega (arith, b .unreadable-most);
       })
-  small-of r (Refused n) reads same = absurd (let y : _≡_ {A = ℕ} 0 1 = cc in omega arith)
+  narrow-of r (Refused n) reads same = absurd (let y : _≡_ {A = ℕ} 0 1 = cc in omega arith)
 
-  pub small : (r : Reading) → a ≡ Told r → Small r
-  small r e = small-of r (done .answer) (done .reads) (sym e ∙ done .says)
+  pub narrow : (r : Reading) → a ≡ Told r → Narrow r
+  narrow r e = narrow-of r (done .answer) (done .reads) (sym e ∙ done .says)
 
   pub told : (r : Reading) (b c d f g h i : ℕ) → a ≡ Told r
       → b ≡ r .version → c ≡ r .level → d ≡ r .mask → f ≡ r .payload → g ≡ r .segments → h ≡ r .differing → i ≡ r .unreadable
@@ -64,7 +64,7 @@ module _ (m payload list payload′ list′ : List ℕ) (a : Answered) (done : A
         list-memory = done .list-memory;
       }
     where
-      same : (x : Answer) → Told r ≡ answered x
+      same : (x : Answer) → Told r ≡ answeredOf x
           → record { refusal = 0; version = r .version; level = r .level; mask = r .mask; payload = r .payload; segments = r .segments; differing = r .differing; unreadable = r .unreadable } ≡ readingOf x
       same (Read v l k p q t e) z =
           let y : r ≡ record { version = v; level = l; mask = k; payload = length p; segments = length q / 2; differing = t; unreadable = e } = cc in
@@ -82,7 +82,7 @@ module _ (m payload list payload′ list′ : List ℕ) (a : Answered) (done : A
         list-memory = done .list-memory;
       }
     where
-      same : (x : Answer) → Denied k ≡ answered x → record { refusal = w; version = 0; level = 0; mask = 0; payload = 0; segments = 0; differing = 0; unreadable = 0 } ≡ readingOf x
+      same : (x : Answer) → Denied k ≡ answeredOf x → record { refusal = w; version = 0; level = 0; mask = 0; payload = 0; segments = 0; differing = 0; unreadable = 0 } ≡ readingOf x
       same (Read v l q p s t e) z = absurd (let y : _≡_ {A = ℕ} 0 1 = cc in omega arith)
       same (Refused n) z =
           let y : n ≡ k = cc in
@@ -92,18 +92,18 @@ module _ (m payload list payload′ list′ : List ℕ) (a : Answered) (done : A
 
 module _ (r : Request) (out after : List ℕ) (a : declared.Drawing) (done : Writes r out a after) where
   pub drawn : (s : Symbol) → a ≡ drawing.Drawn s → WriteAnswers r out (record { refusal = 0; version = s .version; mask = s .mask; side = s .side }) after
-  drawn s e = record { answer = same (draw r (length out)) (sym e ∙ done .answered); memory = done .output }
+  drawn s e = record { answer = same (draw r (length out)) (sym e ∙ done .given); memory = done .output }
     where
-      same : (x : Drawing) → drawing.Drawn s ≡ answer x → record { refusal = 0; version = s .version; mask = s .mask; side = s .side } ≡ drawnOf x
+      same : (x : Drawing) → drawing.Drawn s ≡ drawingGiven x → record { refusal = 0; version = s .version; mask = s .mask; side = s .side } ≡ drawnOf x
       same (spec.Drawn v k modules) z =
           let y : s ≡ record { version = v; mask = k; side = side v } = cc in
           ap (λ (s : Symbol). record { refusal = 0; version = s .version; mask = s .mask; side = s .side }) y
       same (spec.Refused n) z = absurd (let y : _≡_ {A = ℕ} 0 1 = cc in omega arith)
 
   pub refused : (k w : ℕ) → a ≡ drawing.Refused k → w ≡ k → WriteAnswers r out (record { refusal = w; version = 0; mask = 0; side = 0 }) after
-  refused k w e ew = record { answer = same (draw r (length out)) (sym e ∙ done .answered); memory = done .output }
+  refused k w e ew = record { answer = same (draw r (length out)) (sym e ∙ done .given); memory = done .output }
     where
-      same : (x : Drawing) → drawing.Refused k ≡ answer x → record { refusal = w; version = 0; mask = 0; side = 0 } ≡ drawnOf x
+      same : (x : Drawing) → drawing.Refused k ≡ drawingGiven x → record { refusal = w; version = 0; mask = 0; side = 0 } ≡ drawnOf x
       same (spec.Drawn v j modules) z = absurd (let y : _≡_ {A = ℕ} 0 1 = cc in omega arith)
       same (spec.Refused n) z = let y : n ≡ k = cc in ap (λ (n : ℕ). record { refusal = n; version = 0; mask = 0; side = 0 }) (ew ∙ sym y)
 

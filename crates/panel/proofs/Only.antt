@@ -1,5 +1,4 @@
 -- No two different answers satisfy the promise of an entry: the writer's is computed, and a matrix has one answer.
--- Assumes nothing.
 use mathlib.Core.Path.{sym, ap, _∙_}
 use lib.ListN.{length}
 use Rattle.reader.specs.Reader.{Answer, payloadAfter, listAfter}

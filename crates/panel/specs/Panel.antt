@@ -1,5 +1,4 @@
 -- What the entries for C answer, and what memory holds then.
--- Assumes nothing.
 use mathlib.Core.Path.{_≡_}
 use mathlib.Core.List.{List}
 use Prim.Native.Nat.{ℕ, _/_}

@@ -1,5 +1,4 @@
 -- A body read group after group: what is written and what is left make the body, and one group more keeps it so.
--- Assumes nothing.
 use mathlib.Core.Path.{_≡_, refl, sym, ap, _∙_}
 use mathlib.Core.Bool.{Bool, true, false, cond}
 use mathlib.Core.List.{List, [], _++_, append-assoc, append-nil}
@@ -12,19 +11,22 @@ use borrow.Author.Tests.{le-leb, lt-leb}
 use Rattle.basics.specs.Bits.{byteBits, number, bytes}
 use Rattle.basics.proofs.Bits.{byteBits-le}
 use Rattle.cursor.specs.Cursor.{field}
+use Rattle.cursor.specs.declared.Cursor.{Cursor}
 use Rattle.cursor.proofs.Bits.{at-most-drop}
 use Rattle.stream.specs.Stream.{known, bodyWidth}
 use Rattle.parse.specs.declared.Group.{Group}
+use Rattle.parse.specs.declared.Reading.the-variants.{Past, OutOfRange}
+use Rattle.parse.specs.Steps.{BodyReads}
 use Rattle.parse.specs.Groups.{groupOf, groupCharacters, InGroup}
-use Rattle.parse.specs.Parse.{digits, digitsInRange, pairs, pairsInRange, characters, inRange}
-use Rattle.parse.proofs.Groups.{Next, next}
+use Rattle.parse.specs.Parse.{digits, digitsInRange, pairs, pairsInRange, characters, groupsInRange}
+use Rattle.parse.proofs.Groups.{NextGroup, next-group}
 
 -- `done` of the body's characters are written after those used, and the cursor is at the group that comes next
 pub record Along (codewords : List ℕ) (mode count used at₀ : ℕ) (payload₀ payload : List ℕ) (at done : ℕ) : Type 0 where
   pub long : length payload ≡ length payload₀
   pub passed : done ≤ count
   pub place : at + bodyWidth mode (count - done) ≡ at₀ + bodyWidth mode count
-  pub ranges : inRange mode count (drop at₀ (byteBits codewords)) ≡ inRange mode (count - done) (drop at (byteBits codewords))
+  pub ranges : groupsInRange mode count (drop at₀ (byteBits codewords)) ≡ groupsInRange mode (count - done) (drop at (byteBits codewords))
   pub chars : take used payload₀ ++ characters mode count (drop at₀ (byteBits codewords))
       ≡ take (used + done) payload ++ characters mode (count - done) (drop at (byteBits codewords))
 
@@ -34,8 +36,8 @@ same-each true b x = refl
 same-each false true x = refl
 same-each false false x = refl
 
-none-ranges : (mode : ℕ) (bs : List ℕ) → inRange mode 0 bs ≡ true
-unfolding inRange digitsInRange pairsInRange
+pub none-ranges : (mode : ℕ) (bs : List ℕ) → groupsInRange mode 0 bs ≡ true
+unfolding groupsInRange digitsInRange pairsInRange
 none-ranges mode bs = same-each (eqb mode 1) (eqb mode 2) true
 
 none-chars : (mode : ℕ) (bs : List ℕ) → characters mode 0 bs ≡ []
@@ -55,16 +57,17 @@ module _ (codewords : List ℕ) (mode count used at₀ : ℕ) (payload₀ : List
 
   module _ (payload : List ℕ) (at done : ℕ) (a : Along codewords mode count used at₀ payload₀ payload at done) where
     -- all of it
-    pub along-all : done ≡ count
-        → (inRange mode count (drop at₀ (byteBits codewords)) ≡ true)
-        × (take (used + count) payload ≡ take used payload₀ ++ characters mode count (drop at₀ (byteBits codewords)))
-        × (at ≡ at₀ + bodyWidth mode count)
+    pub along-all : done ≡ count → BodyReads codewords at₀ mode count used payload₀ payload (Past (record { at = at }))
     along-all e =
-        let z : count - done ≡ 0 = omega arith in (
-          a .ranges ∙ rw z (none-ranges mode (drop at (byteBits codewords))),
-          sym (a .chars ∙ rw (z, e, none-chars mode (drop at (byteBits codewords))) (append-nil (take (used + count) payload))),
-          omega (arith, a .place, ap (bodyWidth mode) z, none-width mode),
-        )
+        let z : count - done ≡ 0 = omega arith in
+        record {
+          refuses = rw (a .ranges, z, none-ranges mode (drop at (byteBits codewords)));
+          chars = λ c o. sym (a .chars ∙ rw (z, e, none-chars mode (drop at (byteBits codewords))) (append-nil (take (used + count) payload)));
+          place = λ c o. let q : c .at ≡ at = cc in omega (arith, a .place, ap (bodyWidth mode) z, none-width mode);
+        }
+
+no-cursor : (c : Cursor) → OutOfRange ≡ Past c → ⊥
+no-cursor c o = let z : _≡_ {A = ℕ} 0 1 = cc in omega arith
 
 -- what the next group g is good for
 pub record Turn (codewords : List ℕ) (mode count used at₀ : ℕ) (payload₀ payload : List ℕ) (at done : ℕ) (g : Group) : Type 0 where
@@ -73,15 +76,15 @@ pub record Turn (codewords : List ℕ) (mode count used at₀ : ℕ) (payload₀
   pub least : 1 ≤ g .size
   pub most : done + g .size ≤ count
   pub inside : (x : ℕ) → x ≤ g .most → InGroup mode (g .size) x
-  pub broken : g .most < field codewords at (g .width) → inRange mode count (drop at₀ (byteBits codewords)) ≡ false
-  pub further : (after : List ℕ) → length after ≡ length payload → field codewords at (g .width) ≤ g .most
-      → take (used + done + g .size) after ≡ take (used + done) payload ++ groupCharacters mode (g .size) (field codewords at (g .width))
-      → Along codewords mode count used at₀ payload₀ after (at + g .width) (done + g .size)
+  pub broken : g .most < field codewords at (g .width) → BodyReads codewords at₀ mode count used payload₀ payload OutOfRange
+  pub further : (after : List ℕ) (to x : ℕ) → length after ≡ length payload → to ≡ at + g .width → x ≡ field codewords at (g .width) → x ≤ g .most
+      → take (used + done + g .size) after ≡ take (used + done) payload ++ groupCharacters mode (g .size) x
+      → Along codewords mode count used at₀ payload₀ after to (done + g .size)
 
 module _ (codewords : List ℕ) (mode count used at₀ : ℕ) (payload₀ payload : List ℕ) (at done : ℕ)
     (a : Along codewords mode count used at₀ payload₀ payload at done) (k : known mode ≡ true) (l : done < count) where
-  n : Next mode (count - done) (drop at (byteBits codewords))
-  n = next mode (count - done) (drop at (byteBits codewords)) k (at-most-drop 1 at (byteBits codewords) (byteBits-le codewords)) (omega arith)
+  n : NextGroup mode (count - done) (drop at (byteBits codewords))
+  n = next-group mode (count - done) (drop at (byteBits codewords)) k (at-most-drop 1 at (byteBits codewords) (byteBits-le codewords)) (omega arith)
 
   the-turn : Turn codewords mode count used at₀ payload₀ payload at done (groupOf mode (count - done))
   unfolding field
@@ -97,17 +100,21 @@ module _ (codewords : List ℕ) (mode count used at₀ : ℕ) (payload₀ payloa
         least = n .least;
         most = omega (arith, n .most);
         inside = n .inside;
-        broken = λ h. a .ranges ∙ n .ranges ∙ rw (lt-leb _ _ h);
-        further = λ after h r w. record {
+        broken = λ h. record {
+          refuses = rw (a .ranges, n .ranges, lt-leb _ _ h);
+          chars = λ c o. absurd (no-cursor c o);
+          place = λ c o. absurd (no-cursor c o);
+        };
+        further = λ after to x′ h p q r w. rw p (record {
           long = h ∙ a .long;
           passed = omega (arith, n .most);
           place = omega (arith, a .place, n .widths, ap (bodyWidth mode) e);
-          ranges = a .ranges ∙ n .ranges ∙ rw (le-leb _ _ r, e, x);
+          ranges = a .ranges ∙ n .ranges ∙ rw (le-leb _ _ (rw q at r), e, x);
           chars =
               a .chars ∙ ap (λ (y : List ℕ). take (used + done) payload ++ y) (n .chars)
               ∙ sym (append-assoc (take (used + done) payload) (groupCharacters mode s (number (take d (drop at (byteBits codewords))))) (characters mode (count - done - s) (drop d (drop at (byteBits codewords)))))
-              ∙ rw (← w, e, f, x);
-        };
+              ∙ rw (← q, ← w, e, f, x);
+        });
       }
 
   pub turn : (g : Group) → g ≡ groupOf mode (count - done) → Turn codewords mode count used at₀ payload₀ payload at done g

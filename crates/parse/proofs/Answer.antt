@@ -1,11 +1,11 @@
 -- What the call answers once the buffers are filled, and that what is copied is the message.
--- Assumes nothing.
 use mathlib.Core.Path.{_≡_, refl, sym, ap₂}
 use mathlib.Core.List.{List, _++_}
 use Prim.Native.Nat.{ℕ, _*_, _/_, _≤_}
 use native.Mathlib.Omega.{arith}
 use lib.ListN.{length, take, drop}
 use lib.Seq.{length-take-le}
+use Rattle.tables.specs.Tables.{mostPayload, mostList}
 use Rattle.parse.specs.declared.Sizes.{Sizes}
 use Rattle.parse.specs.declared.Parsing.the-variants.{Whole, Faulty}
 use Rattle.parse.specs.Parse.{message}
@@ -14,11 +14,11 @@ use Rattle.parse.specs.Steps.{FillReads}
 
 module _ (codewords : List ℕ) (v : ℕ) (bytes pairs : List ℕ) where
   -- a fault: its number, and memory as it was
-  pub answers-fault : (n : ℕ) (payload list : List ℕ) → FillReads codewords v bytes pairs (Faulty n)
-      → (Faulty n ≡ answerOf (message v codewords)) × ((payload ≡ payloadAfter (message v codewords) payload) × (list ≡ listAfter (message v codewords) list))
-  answers-fault n payload list f = rw f (refl, (refl, refl))
+  pub answers-fault : (n k : ℕ) (payload list : List ℕ) → FillReads codewords v bytes pairs (Faulty n) → k ≡ n
+      → (Faulty k ≡ answerOf (message v codewords)) × ((payload ≡ payloadAfter (message v codewords) payload) × (list ≡ listAfter (message v codewords) list))
+  answers-fault n k payload list f e = rw (f, e) (refl, (refl, refl))
 
-  module _ (s : Sizes) (f : FillReads codewords v bytes pairs (Whole s)) (b : length bytes ≡ 652) (p : length pairs ≡ 308) where
+  module _ (s : Sizes) (f : FillReads codewords v bytes pairs (Whole s)) (b : length bytes ≡ mostPayload) (p : length pairs ≡ mostList) where
     pub bytes-inside : s .payload ≤ length bytes
     bytes-inside = omega (arith, f .1)
 

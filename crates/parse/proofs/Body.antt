@@ -1,6 +1,5 @@
 -- A body that was written is read back: its characters are the same, and every group is in range.
 -- A group's number is below its power of two, so its bits are the number; a character in its mode has a code, and the code gives it back.
--- Assumes nothing.
 use mathlib.Core.Path.{_≡_, refl, ap, ap₂, _∙_}
 use mathlib.Core.Bool.{Bool, true, false, cond, _&&_, _||_}
 use mathlib.Core.List.{List, [], _∷_, _++_, append-assoc}
@@ -15,7 +14,7 @@ use Rattle.basics.specs.Bits.{bits, byteBits, number, bytes}
 use Rattle.basics.specs.Lists.{each, placeIn, AtMost}
 use Rattle.basics.proofs.Bits.{length-bits, number-bits}
 use Rattle.stream.specs.Stream.{alphabet, codeOf, character, known, inMode, numericBits, alphanumericBits, body}
-use Rattle.parse.specs.Parse.{digits, digitsInRange, pairs, pairsInRange, characters, inRange}
+use Rattle.parse.specs.Parse.{digits, digitsInRange, pairs, pairsInRange, characters, groupsInRange}
 
 -- ---- tests
 
@@ -174,10 +173,10 @@ bytes-written (c ∷ cs) rest h =
 
 module _ (mode : ℕ) (cs rest : List ℕ) (m : each (inMode mode) cs ≡ true) (b : AtMost 255 cs) where
   abbrev Written : Type 0
-  Written = (characters mode (length cs) (body mode cs ++ rest) ≡ cs) × (inRange mode (length cs) (body mode cs ++ rest) ≡ true)
+  Written = (characters mode (length cs) (body mode cs ++ rest) ≡ cs) × (groupsInRange mode (length cs) (body mode cs ++ rest) ≡ true)
 
   pub body-written : known mode ≡ true → Written
-  unfolding characters inRange body
+  unfolding characters groupsInRange body
   body-written k =
       by-mode mode k
       (λ e. rw e (digits-written cs rest (rw e at m)))

@@ -1,6 +1,5 @@
 -- `parse-encode`: the data codewords of a lawful message are read back to that message. The message fits, so each count fits its field;
 -- the padding leaves the segments' bits, then up to four zero bits as fit, so that what follows them is the stream's end.
--- Assumes nothing.
 use mathlib.Core.Path.{_≡_, refl, sym, ap, ap₂, _∙_}
 use mathlib.Core.Bool.{Bool, true, false, cond, _||_}
 use mathlib.Core.Logic.{_⊎_, ⊎-elim}
@@ -11,7 +10,7 @@ use native.Mathlib.Omega.{arith}
 use lib.Dec.{T, leb, ltb, eqb, leb→le}
 use lib.ListN.{length, take, drop, replicate, length-append, length-drop, length-replicate, getD-replicate}
 use lib.Seq.{take-add, take-append-add, length-take-le}
-use borrow.Author.Tests.{leb-true, lt-ltb, eq-eqb}
+use borrow.Author.Tests.{lt-ltb, eq-eqb}
 use Rattle.basics.specs.Bits.{bits, byteBits, numberAfter, number, bytes}
 use Rattle.basics.specs.Lists.{AtMost}
 use Rattle.basics.proofs.Bits.{length-bits, bits-le, byteBits-append, byteBits-le, bits-number, length-bytes}
@@ -19,7 +18,8 @@ use Rattle.basics.proofs.Lists.{at-most-append}
 use Rattle.cursor.proofs.Bits.{order, at-most-take, at-most-drop}
 use Rattle.tables.specs.Tables.{totals, checkRows, blockRows, total, checkCount, blockCount, countWidth, dataCount, Lawful}
 use Rattle.tables.proofs.Rules.{everywhere, rule}
-use Rattle.stream.specs.Stream.{codeOf, known, numericBits, alphanumericBits, body, bodyWidth, segments, segmentsWidth, lawfulList, counts, fits, pads, wholeBytes, padded, dataCodewords, LawfulMessage}
+use Rattle.stream.specs.Stream.{codeOf, known, numericBits, alphanumericBits, body, bodyWidth, segments, segmentsWidth, lawfulList, counts, pads, wholeBytes, padded, dataCodewords, LawfulMessage}
+use Rattle.stream.proofs.Fitting.{fit-width}
 use Rattle.parse.specs.Parse.{End, ends, front, Message, parse, mostData, message}
 use Rattle.parse.proofs.Body.{both-left, both-right, by-mode}
 use Rattle.parse.proofs.Written.{body-length, CountsFit, segments-read}
@@ -213,12 +213,12 @@ even-short v (mode ∷ count ∷ list) m = omega (arith, even-short v list (both
 
 pub parse-encode : (v level : ℕ) (payload list : List ℕ) → Lawful v level → LawfulMessage v level payload list
     → message v (dataCodewords v level list payload) ≡ Message payload list
-unfolding message dataCodewords fits
+unfolding message dataCodewords
 parse-encode v level payload list l m =
     let most : ℕ = dataCount v level in
     let bs : List ℕ = segments v list payload in
     let w : length bs ≡ segmentsWidth v list = segments-length v list payload (m .modes) (m .sums) in
-    let f : segmentsWidth v list ≤ 8 * most = leb-true _ _ (m .fit) in
+    let f : segmentsWidth v list ≤ 8 * most = fit-width v level list (m .fit) in
     let e = padded-ends v most bs (segments-le v list payload) (omega arith) in
     let n : segmentsWidth v list ≤ length (bs ++ e .0) = rw (length-append bs (e .0)) (omega arith) in
     ap (λ (x : List ℕ). parse (length x) v x) (e .1)

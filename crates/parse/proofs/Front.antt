@@ -1,5 +1,4 @@
 -- What `front` answers under which demands, and what `parse` does with each answer.
--- Assumes nothing.
 use mathlib.Core.Path.{_≡_, refl}
 use mathlib.Core.Bool.{Bool, true, false, cond}
 use mathlib.Core.List.{List, []}
@@ -11,7 +10,7 @@ use borrow.Author.Tests.{leb-true, le-ltb, le-leb, ne-eqb}
 use Rattle.basics.specs.Bits.{number}
 use Rattle.tables.specs.Tables.{countWidth}
 use Rattle.stream.specs.Stream.{known, bodyWidth}
-use Rattle.parse.specs.Parse.{Front, End, Segment, Refusal, demand, characters, inRange, headWidth, segment, ends, front, Message, Fault, inFront, parse}
+use Rattle.parse.specs.Parse.{Front, End, Segment, Refusal, demand, characters, groupsInRange, headWidth, segment, ends, front, Message, Fault, inFront, parse}
 use Rattle.parse.proofs.Body.{by-mode}
 
 -- no known mode is 0
@@ -23,15 +22,15 @@ pub known-small : (mode : ℕ) → known mode ≡ true → mode < 16
 known-small mode k = by-mode mode k (λ e. omega arith) (λ e. omega arith) (λ e. omega arith)
 
 -- a whole segment at the front of bits
-pub record Whole (v mode count : ℕ) (bs : List ℕ) : Type 0 where
+pub record WholeSegment (v mode count : ℕ) (bs : List ℕ) : Type 0 where
   pub modes : number (take 4 bs) ≡ mode
   pub counts : number (take (countWidth v mode) (drop 4 bs)) ≡ count
   pub knows : known mode ≡ true
   pub holds : headWidth v mode + bodyWidth mode count ≤ length bs
-  pub ranged : inRange mode count (drop (headWidth v mode) bs) ≡ true
+  pub ranged : groupsInRange mode count (drop (headWidth v mode) bs) ≡ true
 
 module _ (v mode count : ℕ) (bs : List ℕ) where
-  pub whole-segment : Whole v mode count bs → front v bs ≡ Segment mode count
+  pub whole-segment : WholeSegment v mode count bs → front v bs ≡ Segment mode count
   unfolding front ends segment headWidth
   whole-segment w =
       rw (
@@ -61,13 +60,13 @@ segment-front true f e = absurd (let z : _≡_ {A = ℕ} 0 1 = cc in omega arith
 segment-front false f e = e
 
 module _ (v mode count : ℕ) (bs : List ℕ) where
-  pub segment-whole : front v bs ≡ Segment mode count → Whole v mode count bs
+  pub segment-whole : front v bs ≡ Segment mode count → WholeSegment v mode count bs
   unfolding front ends segment headWidth
   segment-whole e =
       let m : ℕ = number (take 4 bs) in
       let n : ℕ = number (take (countWidth v m) (drop 4 bs)) in
       let d =
-      demanded (known m) (leb (headWidth v m) (length bs)) (leb (headWidth v m + bodyWidth m n) (length bs)) (inRange m n (drop (headWidth v m) bs)) m n
+      demanded (known m) (leb (headWidth v m) (length bs)) (leb (headWidth v m + bodyWidth m n) (length bs)) (groupsInRange m n (drop (headWidth v m) bs)) m n
       (segment-front (ends bs) (segment v m n bs) e) in
       record {
         modes = d .3;

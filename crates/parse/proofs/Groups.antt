@@ -1,5 +1,4 @@
 -- The groups of a body, one after the other: the characters, the range and the bits of a body are those of its next group and of what is left.
--- Assumes nothing.
 use mathlib.Core.Path.{_≡_, refl, ap, _∙_}
 use mathlib.Core.Bool.{Bool, true, false, _&&_}
 use mathlib.Core.Logic.{_⊎_, inl, inr, ⊎-elim}
@@ -16,7 +15,7 @@ use Rattle.basics.specs.Lists.{AtMost}
 use Rattle.cursor.proofs.Bits.{number-small}
 use Rattle.stream.specs.Stream.{character, known, bodyWidth}
 use Rattle.parse.specs.Groups.{groupOf, groupCharacters, InGroup}
-use Rattle.parse.specs.Parse.{digits, digitsInRange, pairs, pairsInRange, characters, inRange}
+use Rattle.parse.specs.Parse.{digits, digitsInRange, pairs, pairsInRange, characters, groupsInRange}
 use Rattle.parse.proofs.Body.{by-mode}
 
 -- ---- characters written one after the other
@@ -81,16 +80,16 @@ module _ (l : List ℕ) (p mode size x : ℕ) (e : size ≡ 1) (h : p + size ≤
 -- ---- the next group
 
 -- a body where so many characters are left is its next group and the body of what is left then
-pub record Next (mode left : ℕ) (bs : List ℕ) : Type 0 where
+pub record NextGroup (mode left : ℕ) (bs : List ℕ) : Type 0 where
   pub least : 1 ≤ groupOf mode left .size
   pub most : groupOf mode left .size ≤ left
   pub narrow : groupOf mode left .width ≤ 16
   pub chars : characters mode left bs
       ≡ groupCharacters mode (groupOf mode left .size) (number (take (groupOf mode left .width) bs))
       ++ characters mode (left - groupOf mode left .size) (drop (groupOf mode left .width) bs)
-  pub ranges : inRange mode left bs
+  pub ranges : groupsInRange mode left bs
       ≡ (leb (number (take (groupOf mode left .width) bs)) (groupOf mode left .most)
-      && inRange mode (left - groupOf mode left .size) (drop (groupOf mode left .width) bs))
+      && groupsInRange mode (left - groupOf mode left .size) (drop (groupOf mode left .width) bs))
   pub widths : bodyWidth mode left ≡ groupOf mode left .width + bodyWidth mode (left - groupOf mode left .size)
   pub inside : (x : ℕ) → x ≤ groupOf mode left .most → InGroup mode (groupOf mode left .size) x
 
@@ -109,8 +108,8 @@ always : (b : Bool) → b ≡ (b && true)
 always true = refl
 always false = refl
 
-next-digits : (left : ℕ) (bs : List ℕ) → 1 ≤ left → Next 1 left bs
-unfolding groupOf groupCharacters characters inRange bodyWidth digits digitsInRange
+next-digits : (left : ℕ) (bs : List ℕ) → 1 ≤ left → NextGroup 1 left bs
+unfolding groupOf groupCharacters characters groupsInRange bodyWidth digits digitsInRange
 next-digits zero bs h = absurd (not-suc-le-zero h)
 next-digits (suc zero) bs h = record {
   least = omega arith;
@@ -145,8 +144,8 @@ next-digits (suc (suc (suc n))) bs h =
       inside = rw e (λ x l. in-three 1 x l);
     }
 
-next-pairs : (left : ℕ) (bs : List ℕ) → 1 ≤ left → Next 2 left bs
-unfolding groupOf groupCharacters characters inRange bodyWidth pairs pairsInRange
+next-pairs : (left : ℕ) (bs : List ℕ) → 1 ≤ left → NextGroup 2 left bs
+unfolding groupOf groupCharacters characters groupsInRange bodyWidth pairs pairsInRange
 next-pairs zero bs h = absurd (not-suc-le-zero h)
 next-pairs (suc zero) bs h = record {
   least = omega arith;
@@ -170,8 +169,8 @@ next-pairs (suc (suc n)) bs h =
       inside = rw e (λ x l. in-two 2 x l (λ f. absurd (omega arith)));
     }
 
-next-byte : (left : ℕ) (bs : List ℕ) → AtMost 1 bs → 1 ≤ left → Next 4 left bs
-unfolding groupOf groupCharacters characters inRange bodyWidth bytes
+next-byte : (left : ℕ) (bs : List ℕ) → AtMost 1 bs → 1 ≤ left → NextGroup 4 left bs
+unfolding groupOf groupCharacters characters groupsInRange bodyWidth bytes
 next-byte zero bs b h = absurd (not-suc-le-zero h)
 next-byte (suc n) bs b h =
     let d : suc n - 1 ≡ n = omega arith in
@@ -185,5 +184,5 @@ next-byte (suc n) bs b h =
       inside = λ x l. in-one 4 x l (λ f. absurd (f refl));
     }
 
-pub next : (mode left : ℕ) (bs : List ℕ) → known mode ≡ true → AtMost 1 bs → 1 ≤ left → Next mode left bs
-next mode left bs k b h = by-mode mode k (λ e. rw e (next-digits left bs h)) (λ e. rw e (next-pairs left bs h)) (λ e. rw e (next-byte left bs b h))
+pub next-group : (mode left : ℕ) (bs : List ℕ) → known mode ≡ true → AtMost 1 bs → 1 ≤ left → NextGroup mode left bs
+next-group mode left bs k b h = by-mode mode k (λ e. rw e (next-digits left bs h)) (λ e. rw e (next-pairs left bs h)) (λ e. rw e (next-byte left bs b h))

@@ -1,5 +1,4 @@
 -- A segment's head, read at a place of the codewords: which demand fails, or that the segment stands whole.
--- Assumes nothing.
 use mathlib.Core.Path.{_≡_, refl, ap, _∙_}
 use mathlib.Core.Bool.{Bool, true, false, cond, _||_}
 use mathlib.Core.List.{List}
@@ -16,9 +15,9 @@ use Rattle.cursor.specs.Cursor.{field}
 use Rattle.cursor.proofs.Bits.{at-most-drop, number-small}
 use Rattle.tables.specs.Tables.{countWidth}
 use Rattle.stream.specs.Stream.{known, bodyWidth}
-use Rattle.parse.specs.Parse.{inRange, Refusal, headWidth, segment, ends, front}
-use Rattle.parse.specs.Steps.{Stands}
-use Rattle.parse.proofs.Front.{Whole}
+use Rattle.parse.specs.Parse.{groupsInRange, Refusal, headWidth, segment, ends, front}
+use Rattle.parse.specs.Steps.{SegmentFits}
+use Rattle.parse.proofs.Front.{WholeSegment}
 
 -- the bits from a place on
 pub left-bits : (codewords : List ℕ) (at : ℕ) → length (drop at (byteBits codewords)) ≡ 8 * length codewords - at
@@ -90,18 +89,18 @@ module _ (codewords : List ℕ) (at : ℕ) where
                 lt-leb (4 + countWidth v mode + bodyWidth mode count) (length (drop at (byteBits codewords))) (omega (arith, left-bits codewords at, going)),
               )
 
-          pub stands : bodyWidth mode count ≤ 8 * length codewords - (at + 4 + countWidth v mode) → Stands v mode count (drop at (byteBits codewords))
+          pub segment-fits : bodyWidth mode count ≤ 8 * length codewords - (at + 4 + countWidth v mode) → SegmentFits v mode count (drop at (byteBits codewords))
           unfolding field headWidth
-          stands h = record { modes = m; counts = the-count; knows = k; holds = omega (arith, left-bits codewords at, going) }
+          segment-fits h = record { modes = m; counts = the-count; knows = k; holds = omega (arith, left-bits codewords at, going) }
 
 -- with its groups in range the segment is whole, else it is refused
-module _ (v mode count : ℕ) (bs : List ℕ) (s : Stands v mode count bs) where
-  pub stands-whole : inRange mode count (drop (headWidth v mode) bs) ≡ true → Whole v mode count bs
-  stands-whole r = record { modes = s .modes; counts = s .counts; knows = s .knows; holds = s .holds; ranged = r }
+module _ (v mode count : ℕ) (bs : List ℕ) (s : SegmentFits v mode count bs) where
+  pub fits-whole : groupsInRange mode count (drop (headWidth v mode) bs) ≡ true → WholeSegment v mode count bs
+  fits-whole r = record { modes = s .modes; counts = s .counts; knows = s .knows; holds = s .holds; ranged = r }
 
-  pub stands-broken : ends bs ≡ false → inRange mode count (drop (headWidth v mode) bs) ≡ false → front v bs ≡ Refusal 15
+  pub fits-broken : ends bs ≡ false → groupsInRange mode count (drop (headWidth v mode) bs) ≡ false → front v bs ≡ Refusal 15
   unfolding front segment
-  stands-broken g r =
+  fits-broken g r =
       rw (
         g,
         s .modes,

@@ -1,6 +1,5 @@
 -- `parsed-lawful`: what is read is a lawful message of its version and level. A group in range has characters of its mode, each body has
 -- as many characters as its count, and no segment runs past the data bits. `buffers-enough`: so it fits the reader's buffers.
--- Assumes nothing.
 use mathlib.Core.Path.{_≡_, refl, sym, ap, _∙_}
 use mathlib.Core.Bool.{Bool, true, false, cond, _&&_}
 use mathlib.Core.List.{List, [], _∷_, _++_}
@@ -10,7 +9,7 @@ use native.Mathlib.Omega.{arith}
 use lib.Dec.{T, leb, eqb}
 use lib.ListN.{length, take, drop, length-append, length-drop}
 use lib.Seq.{take-at, drop-at}
-use borrow.Author.Tests.{leb-true, le-leb}
+use borrow.Author.Tests.{leb-true}
 use Rattle.basics.specs.Bits.{byteBits, number, bytes}
 use Rattle.basics.specs.Lists.{each, placeIn, AtMost}
 use Rattle.basics.proofs.Bits.{length-byteBits, byteBits-le, length-bytes}
@@ -18,10 +17,11 @@ use Rattle.basics.proofs.Lists.{at-most-cons, at-most-append}
 use Rattle.basics.proofs.Test.{all, at}
 use Rattle.cursor.proofs.Bits.{at-most-drop, bytes-small}
 use Rattle.tables.specs.Tables.{dataCount, Lawful, mostPayload, mostList}
-use Rattle.stream.specs.Stream.{alphabet, codeOf, character, known, inMode, bodyWidth, segmentsWidth, lawfulList, counts, lawfulCharacters, fits, LawfulMessage}
-use Rattle.parse.specs.Parse.{digits, digitsInRange, pairs, pairsInRange, characters, inRange, Front, End, Segment, Refusal, headWidth, front, Parsed, Message, Fault, inFront, parse, message}
+use Rattle.stream.specs.Stream.{alphabet, codeOf, character, known, inMode, bodyWidth, segmentsWidth, lawfulList, counts, lawfulCharacters, LawfulMessage}
+use Rattle.stream.proofs.Fitting.{fit-width, width-fits}
+use Rattle.parse.specs.Parse.{digits, digitsInRange, pairs, pairsInRange, characters, groupsInRange, Front, End, Segment, Refusal, headWidth, front, Parsed, Message, Fault, inFront, parse, message}
 use Rattle.parse.proofs.Body.{both-left, both-right, both-true, by-mode}
-use Rattle.parse.proofs.Front.{Whole, segment-whole, parse-segment, parse-refusal, parse-end}
+use Rattle.parse.proofs.Front.{WholeSegment, segment-whole, parse-segment, parse-refusal, parse-end}
 use Rattle.parse.proofs.Encode.{data-most}
 use Rattle.parse.proofs.Load.{list-enough}
 
@@ -93,8 +93,8 @@ unfolding each inMode
 any-byte [] = refl
 any-byte (c ∷ cs) = any-byte cs
 
-pub characters-lawful : (mode count : ℕ) (bs : List ℕ) → known mode ≡ true → inRange mode count bs ≡ true → AtMost 1 bs → Chars mode (characters mode count bs)
-unfolding characters inRange
+pub characters-lawful : (mode count : ℕ) (bs : List ℕ) → known mode ≡ true → groupsInRange mode count bs ≡ true → AtMost 1 bs → Chars mode (characters mode count bs)
+unfolding characters groupsInRange
 characters-lawful mode count bs k r b =
     by-mode mode k
     (λ e. rw e (digits-lawful count bs (rw e at r)))
@@ -156,7 +156,7 @@ nothing v bs payload list e =
 
 module _ (fuel v : ℕ) (bs payload list : List ℕ) (b : AtMost 1 bs)
     (later : (xs p l : List ℕ) → AtMost 1 xs → parse fuel v xs ≡ Message p l → Held v (length xs) p l) where
-  after : (mode count : ℕ) → Whole v mode count bs → (rest : Parsed) → parse fuel v (drop (headWidth v mode + bodyWidth mode count) bs) ≡ rest
+  after : (mode count : ℕ) → WholeSegment v mode count bs → (rest : Parsed) → parse fuel v (drop (headWidth v mode + bodyWidth mode count) bs) ≡ rest
       → inFront mode count (characters mode count (drop (headWidth v mode) bs)) rest ≡ Message payload list → Held v (length bs) payload list
   after mode count w (Fault n) r g = absurd (let z : _≡_ {A = ℕ} 0 1 = cc in omega arith)
   after mode count w (Message p l) r g =
@@ -183,24 +183,23 @@ unfolding parse
 parse-held zero v bs payload list b e = nothing v bs payload list e
 parse-held (suc fuel) v bs payload list b e = by-front fuel v bs payload list b (parse-held fuel v) e (front v bs) refl
 
-pub parsed-lawful : (v level : ℕ) (codewords payload list : List ℕ) → length codewords ≡ dataCount v level
+pub parsed-lawful : (v level : ℕ) (codewords payload list : List ℕ) → Lawful v level → length codewords ≡ dataCount v level
     → message v codewords ≡ Message payload list → LawfulMessage v level payload list
-unfolding message fits
-parsed-lawful v level codewords payload list l e =
+unfolding message
+parsed-lawful v level codewords payload list w l e =
     let h = parse-held (length (byteBits codewords)) v (byteBits codewords) payload list (byteBits-le codewords) e in
     record {
       bytes = h .small;
       modes = h .modes;
       sums = h .sums;
       characters = h .chars;
-      fit = le-leb (segmentsWidth v list) (8 * dataCount v level) (omega (arith, h .fit, length-byteBits codewords));
+      fit = width-fits v level list (w .least) (w .most) (omega (arith, h .fit, length-byteBits codewords));
     }
 
 pub buffers-enough : (v level : ℕ) (codewords payload list : List ℕ) → Lawful v level → length codewords ≡ dataCount v level
     → message v codewords ≡ Message payload list → (length payload ≤ mostPayload) × (length list ≤ mostList)
-unfolding fits
 buffers-enough v level codewords payload list w l e =
-    let m = parsed-lawful v level codewords payload list l e in
-    let f : segmentsWidth v list ≤ 8 * dataCount v level = leb-true (segmentsWidth v list) (8 * dataCount v level) (m .fit) in
+    let m = parsed-lawful v level codewords payload list w l e in
+    let f : segmentsWidth v list ≤ 8 * dataCount v level = fit-width v level list (m .fit) in
     let n = list-enough v list (m .modes) (omega (arith, data-most v level w)) in
     (omega (arith, n .0, m .sums), n .1)

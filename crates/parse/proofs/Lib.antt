@@ -11,5 +11,7 @@ pub mod Lawful
 pub mod Limits
 pub mod Load
 pub mod Numbers
+pub mod Ranges
+pub mod Refused
 pub mod Steps
 pub mod Written

@@ -1,6 +1,5 @@
 -- How many characters and segments fit so many bits: "652 digits is the most that 10-L holds; 154 empty byte segments is the longest list (9-L)".
 -- Three characters take 10 bits or more, and the segment that holds any has a head; a head is 12 bits or more (15 in version 10).
--- Assumes nothing.
 use mathlib.Core.Path.{_≡_, refl}
 use mathlib.Core.Bool.{Bool, true, false, cond}
 use mathlib.Core.Logic.{_⊎_, inl, inr, ⊎-elim}
@@ -9,7 +8,7 @@ use Prim.Native.Nat.{ℕ, zero, suc, _+_, _*_, _/_, _%_, _<_, _≤_}
 use native.Mathlib.Omega.{arith}
 use lib.Dec.{leb}
 use lib.ListN.{length, getD}
-use Rattle.tables.specs.Tables.{countWidth}
+use Rattle.tables.specs.Tables.{countWidth, mostPayload, mostList}
 use Rattle.stream.specs.Stream.{known, bodyWidth, segmentsWidth, lawfulList, counts}
 use Rattle.parse.proofs.Body.{by-mode, both-left, both-right}
 use Rattle.parse.specs.Parse.{mostData}
@@ -20,10 +19,10 @@ load-none true = record { some = inl refl; heads = omega arith }
 load-none false = record { some = inl refl; heads = omega arith }
 
 -- the versions' bits hold no more than the buffers
-pub load-enough : (v bs chars segs : ℕ) → Load (leb v 9) bs chars segs → bs ≤ 8 * mostData v → (chars ≤ 652) × (segs ≤ 154)
+pub load-enough : (v bs chars segs : ℕ) → Load (leb v 9) bs chars segs → bs ≤ 8 * mostData v → (chars ≤ mostPayload) × (segs ≤ 154)
 load-enough v bs chars segs = enough (leb v 9)
   where
-    enough : (t : Bool) → Load t bs chars segs → bs ≤ 8 * cond t 232 274 → (chars ≤ 652) × (segs ≤ 154)
+    enough : (t : Bool) → Load t bs chars segs → bs ≤ 8 * cond t 232 274 → (chars ≤ mostPayload) × (segs ≤ 154)
     enough true l h = (⊎-elim (λ e. omega arith) (λ e. omega arith) (l .some), omega (arith, l .heads))
     enough false l h = (⊎-elim (λ e. omega arith) (λ e. omega arith) (l .some), omega (arith, l .heads))
 
@@ -49,7 +48,7 @@ left-over (suc zero) h = omega arith
 left-over (suc (suc zero)) h = omega arith
 left-over (suc (suc (suc r))) h = absurd (omega arith)
 
-none-or-some : (n : ℕ) → (n ≡ 0) ⊎ (1 ≤ n)
+pub none-or-some : (n : ℕ) → (n ≡ 0) ⊎ (1 ≤ n)
 none-or-some zero = inl refl
 none-or-some (suc n) = inr (omega arith)
 
@@ -105,7 +104,7 @@ list-load v (mode ∷ count ∷ list) m =
     let g : pairsOf list + 1 ≡ suc (pairsOf list) = omega arith in
     rw (e, f, g) at l
 
-pub list-enough : (v : ℕ) (list : List ℕ) → lawfulList list ≡ true → segmentsWidth v list ≤ 8 * mostData v → (counts list ≤ 652) × (length list ≤ 308)
+pub list-enough : (v : ℕ) (list : List ℕ) → lawfulList list ≡ true → segmentsWidth v list ≤ 8 * mostData v → (counts list ≤ mostPayload) × (length list ≤ mostList)
 list-enough v list m h =
     let e = load-enough v (segmentsWidth v list) (counts list) (pairsOf list) (list-load v list m) h in
     (e .0, omega (arith, e .1, length-pairs list m))

@@ -1,6 +1,5 @@
 -- A stream that was written is read back. Each segment's head is its mode and count, its body reads back, and what follows the last
 -- segment is up to four zero bits as fit, so fewer than four bits or mode 0 end the stream.
--- Assumes nothing.
 use mathlib.Core.Path.{_≡_, refl, sym, ap, ap₂, _∙_}
 use mathlib.Core.Bool.{true}
 use mathlib.Core.List.{List, [], _∷_, _++_, append-assoc}
@@ -15,9 +14,9 @@ use Rattle.cursor.proofs.Bits.{at-most-take, at-most-drop}
 use Rattle.basics.proofs.Bits.{length-bits, length-byteBits}
 use Rattle.tables.specs.Tables.{countWidth}
 use Rattle.stream.specs.Stream.{codeOf, known, inMode, numericBits, alphanumericBits, body, bodyWidth, segments, lawfulList, counts, lawfulCharacters}
-use Rattle.parse.specs.Parse.{characters, inRange, End, headWidth, front, Message, inFront, parse}
+use Rattle.parse.specs.Parse.{characters, groupsInRange, End, headWidth, front, Message, inFront, parse}
 use Rattle.parse.proofs.Body.{both-left, both-right, by-mode, number-front, drop-front, body-written}
-use Rattle.parse.proofs.Front.{known-small, Whole, whole-segment, parse-segment, parse-end}
+use Rattle.parse.proofs.Front.{known-small, WholeSegment, whole-segment, parse-segment, parse-end}
 
 -- ---- the length of a body
 
@@ -66,7 +65,7 @@ module _ (v mode count : ℕ) (cs rest : List ℕ) (k : known mode ≡ true) (c 
       ∙ ap (drop (bodyWidth mode count)) after-head
       ∙ drop-at (body mode cs) rest (bodyWidth mode count) (body-length mode cs k ∙ ap (bodyWidth mode) l)
 
-  pub segment-written : Whole v mode count segmentBits
+  pub segment-written : WholeSegment v mode count segmentBits
   unfolding headWidth
   segment-written =
       let w = body-written mode cs rest m b k in
@@ -76,7 +75,7 @@ module _ (v mode count : ℕ) (cs rest : List ℕ) (k : known mode ≡ true) (c 
         knows = k;
         holds =
             simp (length-append, length-bits) (omega (arith, body-length mode cs k ∙ ap (bodyWidth mode) l));
-        ranged = ap (inRange mode count) after-head ∙ ap (λ (n : ℕ). inRange mode n (body mode cs ++ rest)) (sym l) ∙ w .1;
+        ranged = ap (groupsInRange mode count) after-head ∙ ap (λ (n : ℕ). groupsInRange mode n (body mode cs ++ rest)) (sym l) ∙ w .1;
       }
 
   pub characters-written : characters mode count (drop (headWidth v mode) segmentBits) ≡ cs

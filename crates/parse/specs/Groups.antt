@@ -1,5 +1,4 @@
 -- The next group of a body: how many characters it has, in how many bits, the most that it may be; and its characters.
--- Assumes nothing.
 use mathlib.Core.Path.{_≡_}
 use mathlib.Core.Bool.{cond}
 use mathlib.Core.Logic.{_⊎_}

@@ -1,5 +1,4 @@
 -- Data codewords back to a message, or the first fault.
--- Assumes nothing.
 use mathlib.Core.Bool.{Bool, true, false, cond, _&&_, _||_}
 use mathlib.Core.List.{List, [], _∷_, _++_}
 use Prim.Native.Nat.{ℕ, zero, suc, _+_, _/_, _%_}
@@ -42,8 +41,8 @@ pairsInRange (suc (suc n)) bs = leb (number (take 11 bs)) 2024 && pairsInRange n
 unfoldable pub characters : (mode count : ℕ) → List ℕ → List ℕ
 characters mode count bs = cond (eqb mode 1) (digits count bs) (cond (eqb mode 2) (pairs count bs) (bytes count bs))
 
-unfoldable pub inRange : (mode count : ℕ) → List ℕ → Bool
-inRange mode count bs = cond (eqb mode 1) (digitsInRange count bs) (cond (eqb mode 2) (pairsInRange count bs) true)
+unfoldable pub groupsInRange : (mode count : ℕ) → List ℕ → Bool
+groupsInRange mode count bs = cond (eqb mode 1) (digitsInRange count bs) (cond (eqb mode 2) (pairsInRange count bs) true)
 
 -- ---- the front of the stream
 
@@ -66,7 +65,7 @@ headWidth v mode = 4 + countWidth v mode
 -- "Within a segment: mode, count field, whole body length (14), then groups (15)."
 unfoldable pub segment : (v mode count : ℕ) → List ℕ → Front
 segment v mode count bs =
-    let ranged = inRange mode count (drop (headWidth v mode) bs) in
+    let ranged = groupsInRange mode count (drop (headWidth v mode) bs) in
     demand (known mode) 13
     (demand (leb (headWidth v mode) (length bs)) 14
     (demand (leb (headWidth v mode + bodyWidth mode count) (length bs)) 14

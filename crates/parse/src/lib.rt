@@ -6,9 +6,10 @@ ghost use mathlib.Core.List.{[], _∷_, _++_};
 ghost use Prim.Native.Nat.{_+_, _*_, _≤_, _<_};
 ghost use lib.ListN.{length, take, drop};
 ghost use Rattle.basics.specs.Bits.{byteBits};
+ghost use Rattle.tables.specs.Tables.{mostPayload, mostList};
 ghost use Rattle.stream.specs.Stream.{character as characterOf};
 ghost use Rattle.parse.specs.Parse.{ends as doesEnd, mostData, message};
-ghost use Rattle.parse.specs.Answer.{answerOf, payloadAfter, listAfter};
+ghost use Rattle.parse.specs.Answer.{headingNumber, readingNumber, stepNumber, parsingNumber, answerOf, payloadAfter, listAfter};
 ghost use Rattle.parse.specs.Steps.{HeadReads, BodyAsks, BodyReads, StepAsks, StepReads, FillReads};
 ghost use Rattle.parse.specs.Groups.{groupOf, groupCharacters, InGroup};
 
@@ -61,6 +62,43 @@ pub struct Sizes {
 pub enum Parsing {
     Whole(Sizes),
     Faulty(u8),
+}
+
+// The refusal number of each answer, 0 where it is none: what `let .. else` hands on.
+fn heading_no(r: Heading) -> u8
+    ensures { λ n. ⌜ n ≡ headingNumber r ⌝ }
+{
+    match r {
+        Heading::Found(_) => 0,
+        Heading::Refused(n) => n,
+    }
+}
+
+fn reading_no(r: Reading) -> u8
+    ensures { λ n. ⌜ n ≡ readingNumber r ⌝ }
+{
+    match r {
+        Reading::Past(_) => 0,
+        Reading::OutOfRange => 15,
+    }
+}
+
+fn step_no(r: Step) -> u8
+    ensures { λ n. ⌜ n ≡ stepNumber r ⌝ }
+{
+    match r {
+        Step::Next(_) => 0,
+        Step::NoStep(n) => n,
+    }
+}
+
+pub fn parsing_no(r: Parsing) -> u8
+    ensures { λ n. ⌜ n ≡ parsingNumber r ⌝ }
+{
+    match r {
+        Parsing::Whole(_) => 0,
+        Parsing::Faulty(n) => n,
+    }
 }
 
 // The character of a code.
@@ -184,20 +222,20 @@ fn read_body(
     requires { ⌜ BodyAsks (now codewords) (from .at) mode count used (length (now payload)) ⌝ }
     ensures { λ r. ⌜ BodyReads (now (codewords .entry)) (from .at) mode count used (now (payload .entry)) (now (payload .exit)) r ⌝ }
 {
-    let mut at = from.at;
+    let mut cursor = from;
     let mut done: usize = 0;
     while done < count {
         let group = next_group(mode, count - done);
-        let taken = Cursor { at }.take(codewords, group.width);
+        let taken = cursor.take(codewords, group.width);
         let x = wide(taken.value);
         if group.most < x {
             return Reading::OutOfRange;
         }
         put_group(payload, used + done, mode, group.size, x);
-        at += group.width;
+        cursor = taken.next;
         done += group.size;
     }
-    Reading::Past(Cursor { at })
+    Reading::Past(cursor)
 }
 
 // Fewer than four bits are left, or mode 0.
@@ -254,15 +292,16 @@ fn next_segment(
     let from = p.cursor;
     let used = p.used;
     let segments = p.segments;
-    let head = match head_at(from, codewords, v) {
-        Heading::Found(h) => h,
-        Heading::Refused(n) => return Step::NoStep(n),
+    let found = head_at(from, codewords, v);
+    let Heading::Found(head) = found else {
+        return Step::NoStep(heading_no(found));
     };
     let mode = head.mode;
     let count = head.count;
     let body = head.body;
-    let Reading::Past(next) = read_body(body, codewords, mode, count, payload, used) else {
-        return Step::NoStep(15);
+    let read = read_body(body, codewords, mode, count, payload, used);
+    let Reading::Past(next) = read else {
+        return Step::NoStep(reading_no(read));
     };
     let i = 2 * segments;
     list[i] = mode as u16;
@@ -276,30 +315,24 @@ fn next_segment(
 
 // The whole message at the fronts of both buffers; or the first fault.
 fn fill(codewords: &[u8], v: usize, payload: &mut [u8], list: &mut [u16]) -> Parsing
-    requires { ⌜ (length (now codewords) ≤ mostData v) × ((652 ≤ length (now payload)) × (308 ≤ length (now list))) ⌝ }
+    requires { ⌜ (length (now codewords) ≤ mostData v) × ((mostPayload ≤ length (now payload)) × (mostList ≤ length (now list))) ⌝ }
     ensures { λ r. ⌜ FillReads (now (codewords .entry)) v (now (payload .exit)) (now (list .exit)) r ⌝ }
 {
-    let mut at: usize = 0;
-    let mut used: usize = 0;
-    let mut segments: usize = 0;
-    while !ends(Cursor { at }, codewords) {
-        let p = Progress {
-            cursor: Cursor { at },
-            used,
-            segments,
+    let mut p = Progress {
+        cursor: Cursor { at: 0 },
+        used: 0,
+        segments: 0,
+    };
+    while !ends(p.cursor, codewords) {
+        let step = next_segment(p, codewords, v, payload, list);
+        let Step::Next(q) = step else {
+            return Parsing::Faulty(step_no(step));
         };
-        let q = match next_segment(p, codewords, v, payload, list) {
-            Step::Next(q) => q,
-            Step::NoStep(n) => return Parsing::Faulty(n),
-        };
-        let next = q.cursor;
-        at = next.at;
-        used = q.used;
-        segments = q.segments;
+        p = q;
     }
     Parsing::Whole(Sizes {
-        payload: used,
-        segments,
+        payload: p.used,
+        segments: p.segments,
     })
 }
 
@@ -329,14 +362,14 @@ fn copy_numbers(s: &[u16], out: &mut [u16])
 
 // What the data codewords of a version hold, written to the fronts of payload and list; or the first fault, and both as they were.
 pub fn parse(codewords: &[u8], v: usize, payload: &mut [u8], list: &mut [u16]) -> Parsing
-    requires { ⌜ (length (now codewords) ≤ mostData v) × ((652 ≤ length (now payload)) × (308 ≤ length (now list))) ⌝ }
+    requires { ⌜ (length (now codewords) ≤ mostData v) × ((mostPayload ≤ length (now payload)) × (mostList ≤ length (now list))) ⌝ }
     ensures { λ r. ⌜ (r ≡ answerOf (message v (now (codewords .entry)))) × ((now (payload .exit) ≡ payloadAfter (message v (now (codewords .entry))) (now (payload .entry))) × (now (list .exit) ≡ listAfter (message v (now (codewords .entry))) (now (list .entry)))) ⌝ }
 {
     let mut bytes = [0u8; tables::MOST_PAYLOAD];
     let mut pairs = [0u16; tables::MOST_LIST];
-    let sizes = match fill(codewords, v, &mut bytes, &mut pairs) {
-        Parsing::Whole(s) => s,
-        Parsing::Faulty(n) => return Parsing::Faulty(n),
+    let filled = fill(codewords, v, &mut bytes, &mut pairs);
+    let Parsing::Whole(sizes) = filled else {
+        return Parsing::Faulty(parsing_no(filled));
     };
     let n = sizes.payload;
     let m = 2 * sizes.segments;

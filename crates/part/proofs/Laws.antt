@@ -1,8 +1,8 @@
--- The segments' starts never fall, a span ends within the payload, and the parts of a whole list join to the payload.
--- Assumes nothing.
+-- The segments' starts never fall, a span ends within the payload, and the parts of a whole list join to the payload. A lawful list fills as
+-- many bytes as its counts sum to.
 use mathlib.Core.Path.{_≡_, refl, sym, ap, ap₂, _∙_}
 use mathlib.Core.Bool.{Bool, true, false, cond, _&&_}
-use mathlib.Core.List.{List, _++_, map}
+use mathlib.Core.List.{List, [], _∷_, _++_, map}
 use Prim.Native.Nat.{ℕ, zero, suc, _+_, _*_, _/_, _%_, _≤_, _<_}
 use mathlib.Core.Logic.{⊎-elim}
 use native.Mathlib.Nat.{le-refl, le-trans, le-of-suc-le-suc, eq-or-lt-of-le}
@@ -13,7 +13,8 @@ use lib.Seq.{take-add, take-all}
 use borrow.Author.Tests.{leb-true, eq-eqb, lt-ltb, lt-leb, le-leb}
 use Rattle.basics.specs.Lists.{from, upTo, joined}
 use Rattle.basics.proofs.Lists.{map-upTo-suc, joined-append, joined-one}
-use Rattle.part.specs.Part.{startOf, spanOf, partOf, nowhere}
+use Rattle.stream.specs.Stream.{known, lawfulList, counts}
+use Rattle.part.specs.Part.{startOf, spanOf, partOf, nowhere, Fills}
 use Rattle.part.specs.Theorems.{PartInside, PartsJoin}
 use Rattle.part.specs.declared.Span.{Span}
 
@@ -53,7 +54,7 @@ module _ (list : List ℕ) (n k : ℕ) (even : length list % 2 ≡ 0) (has : k <
 
 -- the first parts of a list whose counts sum to no more than the payload's length are its front
 module _ (payload list : List ℕ) (even : length list % 2 ≡ 0) (fits : startOf list (length list / 2) ≤ length payload) where
-  part-here : (k : ℕ) → k < length list / 2 → partOf payload list k ≡ take (getD list (2 * k + 1) 0) (drop (startOf list k) payload)
+  pub part-here : (k : ℕ) → k < length list / 2 → partOf payload list k ≡ take (getD list (2 * k + 1) 0) (drop (startOf list k) payload)
   unfolding partOf
   part-here k h = rw (span-here list (length payload) k even h (le-trans (start-mono list (suc k) (length list / 2) h) fits))
 
@@ -69,3 +70,29 @@ module _ (payload list : List ℕ) (even : length list % 2 ≡ 0) (fits : startO
 pub parts-join : PartsJoin
 parts-join payload list even e =
     parts-front payload list even (rw e (le-refl (length payload))) (length list / 2) (le-refl _) ∙ rw e (take-all (length payload) payload (le-refl _))
+
+-- ---- lawful lists
+
+-- a segment in front moves every start behind it by its count
+start-behind : (mode count : ℕ) (list : List ℕ) (k : ℕ) → startOf (mode ∷ count ∷ list) (suc k) ≡ count + startOf list k
+start-behind mode count list zero = omega arith
+start-behind mode count list (suc k) =
+    let e : 2 * suc k + 1 ≡ suc (suc (2 * k + 1)) = omega arith in
+    let same : getD (mode ∷ count ∷ list) (2 * suc k + 1) 0 ≡ getD list (2 * k + 1) 0 = rw e in
+    omega (arith, start-behind mode count list k)
+
+pub lawful-fills : (list : List ℕ) → lawfulList list ≡ true → Fills list (counts list)
+unfolding lawfulList counts
+lawful-fills [] h = record { whole = refl; sums = refl }
+lawful-fills (mode ∷ []) h = absurd (let z : _≡_ {A = ℕ} 0 1 = cc in omega arith)
+lawful-fills (mode ∷ count ∷ list) h =
+    let f = lawful-fills list (both-right (known mode) (lawfulList list) h) in
+    let e : suc (suc (length list)) / 2 ≡ suc (length list / 2) = omega arith in
+    record {
+      whole = omega (arith, f .whole);
+      sums = rw e (start-behind mode count list (length list / 2) ∙ ap (λ (n : ℕ). count + n) (f .sums));
+    }
+  where
+    both-right : (a b : Bool) → (a && b) ≡ true → b ≡ true
+    both-right true b e = e
+    both-right false b e = cc

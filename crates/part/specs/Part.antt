@@ -1,5 +1,5 @@
 -- The part of a payload that a segment fills.
--- Assumes nothing.
+use mathlib.Core.Path.{_≡_}
 use mathlib.Core.Bool.{cond, _&&_}
 use mathlib.Core.List.{List}
 use Prim.Native.Nat.{ℕ, zero, suc, _+_, _*_, _/_, _%_}
@@ -26,3 +26,8 @@ spanOf list n k =
 -- its bytes
 unfoldable pub partOf : (payload list : List ℕ) (k : ℕ) → List ℕ
 partOf payload list k = let s = spanOf list (length payload) k in take (s .len) (drop (s .start) payload)
+
+-- a list whose segments fill a payload of n bytes: no number is left over, and the counts sum to n
+pub record Fills (list : List ℕ) (n : ℕ) : Type 0 where
+  pub whole : length list % 2 ≡ 0
+  pub sums : startOf list (length list / 2) ≡ n

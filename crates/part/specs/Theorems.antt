@@ -1,5 +1,4 @@
 -- What is shown of the parts beside the contracts, each a statement with a name.
--- Assumes nothing.
 use mathlib.Core.Path.{_≡_}
 use mathlib.Core.List.{List, map}
 use Prim.Native.Nat.{ℕ, _+_, _/_, _%_, _≤_}

@@ -1,6 +1,5 @@
 -- How much each part of the score adds at the most, and so the whole: at side 57 no more than 230098.
 -- A line of n modules adds at most n − 2 by its runs and 40 by each of its n − 10 windows, a square 3, the dark share 100.
--- Assumes nothing.
 use mathlib.Core.List.{List, [], _∷_}
 use Prim.Native.Nat.{ℕ, zero, suc, _+_, _-_, _*_, _≤_}
 use native.Mathlib.Nat.{suc-mul, mul-le-mul, le-refl, le-trans, div-le-of-le-mul}

@@ -1,5 +1,4 @@
 -- The columns of a matrix by counts over its places, one after the other: `columns-counted`.
--- Assumes nothing.
 use mathlib.Core.Path.{_≡_, refl, sym, ap, _∙_}
 use mathlib.Core.Bool.{Bool, true, false, cond, _&&_}
 use mathlib.Core.Logic.{by-cases}

@@ -1,5 +1,4 @@
 -- Cases j and k of the paper, and a line in which both forms of the pattern overlap.
--- Assumes nothing.
 use mathlib.Core.Path.{_≡_, refl}
 use mathlib.Core.List.{[], _∷_, map}
 use lib.ListN.{replicate}

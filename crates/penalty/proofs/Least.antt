@@ -1,6 +1,5 @@
 -- The place of the least number: it is the least, and the first among equals.
 -- What is kept on the way: `least` stands at `place`, no number before k is less, and those before `place` are greater.
--- Assumes nothing.
 use mathlib.Core.Path.{_≡_, refl, sym, ap, _∙_}
 use mathlib.Core.Bool.{Bool, true, false, cond}
 use mathlib.Core.Logic.{⊎-elim}

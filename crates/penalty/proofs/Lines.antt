@@ -1,7 +1,6 @@
 -- The lines of a matrix are its rows and its columns.
 --     rows-lines       the rows are the lines that start at 0, s, 2·s, .. with stride 1
 --     columns-lines    the columns are the lines that start at 0, 1, 2, .. with stride s
--- Assumes nothing.
 use mathlib.Core.Path.{_≡_, refl, sym, ap, ap₂, _∙_}
 use mathlib.Core.List.{List, _∷_, map}
 use Prim.Native.Nat.{ℕ, zero, suc, _+_, _-_, _*_, _<_, _≤_}

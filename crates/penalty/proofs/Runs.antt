@@ -1,6 +1,5 @@
 -- The runs of a line, how much they add at the most, and `runs-firsts`: of a run of r ≥ 5 modules r − 4 begin five equal ones and r − 5 begin six, and
 -- r − 2 = 3 · (r − 4) − 2 · (r − 5), so that the runs are counted without a walk.
--- Assumes nothing.
 use mathlib.Core.Path.{_≡_, refl, sym, ap, subst, _∙_}
 use mathlib.Core.Logic.{by-cases}
 use mathlib.Core.Bool.{Bool, true, false, cond}

@@ -1,5 +1,4 @@
 -- The squares, row by row, and how much they add at the most.
--- Assumes nothing.
 use mathlib.Core.Path.{_≡_, _∙_}
 use mathlib.Core.Bool.{_&&_}
 use mathlib.Core.List.{List, []}

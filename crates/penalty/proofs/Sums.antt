@@ -4,7 +4,6 @@
 --     sum-split    a sum in two parts; tally-split, the same of a tally
 --     sum-plus     a sum of sums; sum-times, of multiples
 --     sum-grid     what stands in s columns of t rows, column by column, stands in t · s places, one after the other
--- Assumes nothing.
 use mathlib.Core.Path.{_≡_, refl, sym, ap, ap₂, _∙_}
 use mathlib.Core.Bool.{Bool}
 use Prim.Native.Nat.{ℕ, zero, suc, _+_, _*_}

@@ -1,5 +1,4 @@
 -- The windows of a line: the first and those after it; a line too short for a window adds nothing.
--- Assumes nothing.
 use mathlib.Core.Path.{_≡_, refl, sym, ap, ap₂, _∙_}
 use mathlib.Core.Bool.{Bool, true, false, cond, _&&_}
 use mathlib.Core.List.{List, [], _∷_}

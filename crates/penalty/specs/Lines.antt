@@ -1,5 +1,4 @@
 -- The lines of a matrix by a start and a stride: a row has stride 1, a column the side.
--- Assumes nothing.
 use mathlib.Core.Bool.{Bool, _&&_}
 use mathlib.Core.List.{List, [], _∷_}
 use Prim.Native.Nat.{ℕ, zero, suc, _+_, _*_}

@@ -1,5 +1,4 @@
 -- What is promised of the score and of the choice of the mask, beside the contract of `score`.
--- Assumes nothing.
 use mathlib.Core.Path.{_≡_}
 use mathlib.Core.List.{List}
 use Prim.Native.Nat.{ℕ, _*_, _<_, _≤_}

@@ -1,6 +1,5 @@
 -- A drawn symbol is read to what was drawn after any damage within its bounds: each block's own codeword stands for it, so no step refuses,
 -- and the data codewords of those codewords are the message's.
--- Assumes nothing.
 use mathlib.Core.Path.{_≡_, refl, sym, ap, subst, _∙_}
 use mathlib.Core.Logic.{inr, ⊎-elim}
 use mathlib.Core.List.{List}
@@ -21,7 +20,7 @@ use Rattle.blocks.specs.Blocks.{gathered, dataOf}
 use Rattle.modules.specs.Modules.{formatPlaces, versionPlaces}
 use Rattle.scan.specs.Received.{copied, readable, received}
 use Rattle.writer.specs.Writer.{Request, Drawn, draw, codewords}
-use Rattle.reader.specs.Reader.{Read, Reads, answer, OtherVersion, TwoFormats, Corrected, FormatStands, blockWord, blockFlags}
+use Rattle.reader.specs.Reader.{Read, Reads, decided, OtherVersion, TwoFormats, AllStand, FormatStands, blockWord, blockFlags}
 use Rattle.promises.specs.Promises.{Bytes, LargeEnough, wrong, lost, Survives}
 
 -- what a symbol holds that was drawn for a request, given what the crates below show
@@ -58,15 +57,15 @@ module _ (r : Request) (v mask payloadRoom listRoom : ℕ) (modules m : List ℕ
           near = blocks b l;
         }
 
-    corrected : Corrected v (r .level) mask (received v mask m)
+    all-stand : AllStand v (r .level) mask (received v mask m)
         (Read v (r .level) mask (r .payload) (r .list) (sum (Tables.blockCount v (r .level)) (wrong v (r .level) mask modules m)) (sum (Tables.blockCount v (r .level)) (lost v (r .level) mask m)))
-    corrected =
+    all-stand =
         record {
           blocks = blockWord v (r .level) (received v mask modules);
           ts = wrong v (r .level) mask modules m;
           es = lost v (r .level) mask m;
           stand = stand;
-          gives = sym (ap (answer v (r .level) mask (sum (Tables.blockCount v (r .level)) (wrong v (r .level) mask modules m)) (sum (Tables.blockCount v (r .level)) (lost v (r .level) mask m))) (h .gives));
+          gives = sym (ap (decided v (r .level) mask (sum (Tables.blockCount v (r .level)) (wrong v (r .level) mask modules m)) (sum (Tables.blockCount v (r .level)) (lost v (r .level) mask m))) (h .gives));
         }
 
     -- the wider statement: no version copy stands for another version, some format copy stands for what was drawn, and none for another word
@@ -96,7 +95,7 @@ module _ (r : Request) (v mask payloadRoom listRoom : ℕ) (modules m : List ℕ
                             level = r .level;
                             mask = mask;
                             stands = format;
-                            then = inr ((λ n. n .2 _ _ _ (stand (n .0) (n .1))), corrected);
+                            then = inr ((λ n. n .2 _ _ _ (stand (n .0) (n .1))), all-stand);
                           },
                         ),
                       ),

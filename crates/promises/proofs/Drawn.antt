@@ -1,5 +1,4 @@
 -- What a drawn symbol holds: its blocks are the codewords that were dealt, their data is the message's, its copies are the words. So it reads back.
--- Assumes nothing.
 use mathlib.Core.Path.{_≡_, refl, sym, ap, ap₂, _∙_}
 use mathlib.Core.Bool.{Bool, true, false, not, _&&_}
 use mathlib.Core.List.{List, [], _∷_, map}

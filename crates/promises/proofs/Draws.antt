@@ -1,5 +1,4 @@
 -- A request is drawn exactly where no check refuses it.
--- Assumes nothing.
 use mathlib.Core.Path.{ap}
 use Prim.Native.Nat.{ℕ}
 use Rattle.writer.specs.Writer.{draw, drawAt, taken}
@@ -10,6 +9,6 @@ pub draws-all : DrawsAll
 unfolding draw drawAt
 draws-all r out =
     record {
-      drawn = λ e. (_, _, _, ap (λ (n : ℕ). Writer.answered n (drawAt (taken (r .level) (r .version) (r .list)) r)) e);
-      denied = λ n e. ap (λ (n : ℕ). Writer.answered n (drawAt (taken (r .level) (r .version) (r .list)) r)) e;
+      drawn = λ e. (_, _, _, ap (λ (n : ℕ). Writer.refusedOr n (drawAt (taken (r .level) (r .version) (r .list)) r)) e);
+      denied = λ n e. ap (λ (n : ℕ). Writer.refusedOr n (drawAt (taken (r .level) (r .version) (r .list)) r)) e;
     }

@@ -1,6 +1,5 @@
 -- What is read is a lawful message that fits the caller's buffers: it is what the data codewords of the blocks hold, and there are as many of
 -- them as the version and level has.
--- Assumes nothing.
 use mathlib.Core.Path.{_≡_, sym, subst, subst₂}
 use mathlib.Core.Logic.{inl, inr}
 use mathlib.Core.List.{List}
@@ -13,7 +12,7 @@ use Rattle.stream.specs.Stream.{LawfulMessage}
 use Rattle.parse.specs.Parse.{Parsed, Message, Fault, message}
 use Rattle.parse.proofs.Lawful.{parsed-lawful, buffers-enough}
 use Rattle.scan.specs.Received.{received}
-use Rattle.reader.specs.Reader.{Read, Refused, answer, First, Reads}
+use Rattle.reader.specs.Reader.{Read, Refused, decided, First, Reads}
 use Rattle.reader.proofs.Data.{data-length}
 use Rattle.promises.specs.Promises.{ReadsLawful}
 
@@ -27,7 +26,7 @@ module _ (v level mask t e : ℕ) (payload list : List ℕ) where
   passed (inr p) = p
 
   -- the stream gave it
-  gave : (w l k x y : ℕ) (p : Parsed) → Read v level mask payload list t e ≡ answer w l k x y p → (v ≡ w) × (level ≡ l) × (mask ≡ k) × (t ≡ x) × (e ≡ y) × (p ≡ Message payload list)
+  gave : (w l k x y : ℕ) (p : Parsed) → Read v level mask payload list t e ≡ decided w l k x y p → (v ≡ w) × (level ≡ l) × (mask ≡ k) × (t ≡ x) × (e ≡ y) × (p ≡ Message payload list)
   gave w l k x y (Message q r) h = (cc, cc, cc, cc, cc, cc)
   gave w l k x y (Fault n) h = absurd (not-refused n h)
 
@@ -60,7 +59,7 @@ reads-lawful m payloadRoom listRoom v level mask t e payload list reads =
     record {
       lawful = subst₂ Tables.Lawful (sym (g .0)) (sym (g .1)) lawful;
       masks = subst (λ (k : ℕ). k < 8) (sym (g .2)) (f .stands .masks);
-      message = subst₂ (λ (v level : ℕ). LawfulMessage v level payload list) (sym (g .0)) (sym (g .1)) (parsed-lawful (p .version) (f .level) _ payload list long (g .5));
+      message = subst₂ (λ (v level : ℕ). LawfulMessage v level payload list) (sym (g .0)) (sym (g .1)) (parsed-lawful (p .version) (f .level) _ payload list lawful long (g .5));
       payload-most = room .0;
       list-most = room .1;
       differing-most = subst (λ (t : ℕ). t ≤ 240) (sym (g .3)) (sum-most _ (d .ts) (blocks-most _ _ lawful) (λ b h. few b h .0));

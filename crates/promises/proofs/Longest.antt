@@ -1,5 +1,4 @@
 -- The longest list: 154 empty byte segments fit 9-L, by computing, and no version and level holds more segments, since each has a head.
--- Assumes nothing.
 use mathlib.Core.Path.{_≡_, refl, subst}
 use mathlib.Core.Bool.{Bool, true, cond}
 use mathlib.Core.Logic.{_⊎_, inl, inr, by-cases}
@@ -7,7 +6,7 @@ use mathlib.Core.List.{List, []}
 use Prim.Native.Nat.{ℕ, suc, _*_, _≤_, _<_}
 use native.Mathlib.Decide.{ℕ-discrete}
 use native.Mathlib.Omega.{arith}
-use borrow.Author.Tests.{leb-true, le-leb}
+use borrow.Author.Tests.{le-leb}
 use lib.Dec.{T, leb, leb→le, eqb, eqb→eq}
 use lib.ListN.{length}
 use Rattle.basics.specs.Lists.{each}
@@ -15,6 +14,7 @@ use Rattle.basics.proofs.Test.{both, both-left, both-right, either, either-case
 use Rattle.tables.specs.Tables
 use Rattle.tables.proofs.Rules.{everywhere, rule}
 use Rattle.stream.specs.Stream.{known, bodyWidth, segmentsWidth, lawfulList, counts, lawfulCharacters, fits}
+use Rattle.stream.proofs.Fitting.{fit-width}
 use Rattle.parse.proofs.Encode.{data-most}
 use Rattle.parse.proofs.Load.{pairsOf, length-pairs, list-load, list-enough}
 use Rattle.writer.specs.Writer.{Request, request, inRange, taken, refusal}
@@ -58,23 +58,21 @@ unfolding Tables.dataCount Tables.total Tables.totals Tables.checkCount Tables.c
 heavy-tested = tt
 
 alone : (v level : ℕ) (list : List ℕ) → Tables.Lawful v level → lawfulList list ≡ true → fits v level list ≡ true → length list ≡ 2 * 154 → (v ≡ 9) × (level ≡ 0)
-unfolding fits
 alone v level list lawful modes fit long = by (either-cases (both (eqb v 9) (eqb level 0)) _ (rule heavy heavy-tested v level lawful))
   where
     few : cond (leb v 9) 12 15 * 154 ≤ 8 * Tables.dataCount v level
     few =
         let e : pairsOf list ≡ 154 = omega (arith, length-pairs list modes) in
         let h : cond (leb v 9) 12 15 * 154 ≤ segmentsWidth v list = subst (λ (n : ℕ). cond (leb v 9) 12 15 * n ≤ segmentsWidth v list) e (list-load v list modes .heads) in
-        omega (arith, leb-true (segmentsWidth v list) (8 * Tables.dataCount v level) fit)
+        omega (arith, fit-width v level list fit)
 
     by : T (both (eqb v 9) (eqb level 0)) ⊎ T (leb (suc (8 * Tables.dataCount v level)) (cond (leb v 9) 12 15 * 154)) → (v ≡ 9) × (level ≡ 0)
     by (inl t) = (eqb→eq v 9 (both-left (eqb v 9) (eqb level 0) t), eqb→eq level 0 (both-right (eqb v 9) (eqb level 0) t))
     by (inr t) = absurd (omega (arith, few, leb→le (suc (8 * Tables.dataCount v level)) (cond (leb v 9) 12 15 * 154) t))
 
 most : (r : Request) (out : ℕ) → refusal r out ≡ 0 → (length (r .payload) ≤ Tables.mostPayload) × (length (r .list) ≤ 2 * 154)
-unfolding fits
 most r out z =
-    let n = list-enough v (r .list) modes (omega (arith, leb-true (segmentsWidth v (r .list)) (8 * Tables.dataCount v (r .level)) fit, data-most v (r .level) lawful)) in
+    let n = list-enough v (r .list) modes (omega (arith, fit-width v (r .level) (r .list) fit, data-most v (r .level) lawful)) in
     (omega (arith, n .0, sums), n .1)
   where
     v : ℕ
@@ -93,9 +91,7 @@ most r out z =
     sums = by-cases (ℕ-discrete (counts (r .list)) (length (r .payload))) (λ e. e) (λ n. absurd (s .sums n))
 
     fit : fits (taken (r .level) (r .version) (r .list)) (r .level) (r .list) ≡ true
-    fit =
-        let n : ¬ (Tables.lastVersion < r .version) = λ h. s .numbers (inr (inl h)) in
-        fit-rule (r .level) (r .version) (r .list) (omega arith) .takes (λ e. omega (arith, lawful .least))
+    fit = fit-rule (r .level) (r .version) (r .list) .takes (λ e. omega (arith, lawful .least))
 
 pub longest-list : LongestList
 longest-list = record { reached = reached; alone = alone; most = most }

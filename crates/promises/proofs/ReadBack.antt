@@ -1,5 +1,4 @@
 -- What the writer draws holds the message that was asked for, so it reads back, and survives any damage within its bounds.
--- Assumes nothing.
 use mathlib.Core.Path.{_≡_, refl, sym, ap, subst, subst₂, _∙_}
 use mathlib.Core.Logic.{inl, inr, by-cases}
 use mathlib.Core.Bool.{Bool, true, false}
@@ -51,11 +50,8 @@ module _ (r : Request) (out v mask : ℕ) (modules : List ℕ) (bytes : Bytes r)
         sums = by-cases (ℕ-discrete (counts (r .list)) (length (r .payload))) (λ e. e) (λ n. absurd (s .sums n));
         characters = passes (lawfulCharacters (r .list) (r .payload)) (λ f. s .characters (characters-faulty (r .list) (r .payload) f));
         fit = subst (λ (w : ℕ). fits w (r .level) (r .list) ≡ true) (sym (rule .version))
-            (fit-rule (r .level) (r .version) (r .list) version .takes (λ z. omega (arith, rule .version, rule .lawful .least)));
+            (fit-rule (r .level) (r .version) (r .list) .takes (λ z. omega (arith, rule .version, rule .lawful .least)));
       }
-    where
-      version : r .version ≤ Tables.lastVersion
-      version = let n : ¬ (Tables.lastVersion < r .version) = λ h. s .numbers (inr (inl h)) in omega arith
 
   held : List ℕ
   held = dataCodewords v (r .level) (r .list) (r .payload)

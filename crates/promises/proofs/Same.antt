@@ -1,6 +1,5 @@
 -- Two matrices that agree on data modules (the surplus left out), format and version modules get one answer: the copies, the codewords and the
 -- flags are the same numbers, so each step of `Reads` is the same.
--- Assumes nothing.
 use mathlib.Core.Path.{_≡_, refl, sym, ap, ap₂, subst, _∙_}
 use mathlib.Core.Logic.{_⊎_, inl, inr, ⊎-elim, by-cases}
 use mathlib.Core.Bool.{cond}

@@ -1,9 +1,9 @@
 -- What holds of writer and reader together, each demand as a statement with a name.
--- Assumes nothing.
 use mathlib.Core.Path.{_≡_}
+use mathlib.Core.Logic.{_≢_}
 use mathlib.Core.Bool.{true}
 use mathlib.Core.List.{List, [], _∷_, List·Memᴰ}
-use Prim.Native.Nat.{ℕ, zero, suc, _+_, _*_, _≤_, _<_}
+use Prim.Native.Nat.{ℕ, zero, suc, _+_, _-_, _*_, _/_, _≤_, _<_}
 use lib.ListN.{length, getD, take}
 use Rattle.basics.specs.Lists.{AtMost}
 use Rattle.basics.specs.Sums.{sum}
@@ -15,7 +15,7 @@ use Rattle.modules.specs.Modules.{order, formatPlaces, versionPlaces}
 use Rattle.scan.specs.Received.{copied, readable, received}
 use Rattle.writer.specs.Writer.{Request, request, Drawn, draw, refusal}
 use Rattle.writer.specs.Writer
-use Rattle.reader.specs.Reader.{Answer, Read, Reads, blockWord, blockFlags}
+use Rattle.reader.specs.Reader.{Answer, Read, Reads, BlockStands, blockWord, blockFlags}
 
 -- a payload of bytes, as the caller's types have it
 abbrev pub Bytes : Request → Type 0
@@ -62,6 +62,15 @@ Survives = (r : Request) (out v mask payloadRoom listRoom : ℕ) (modules m : Li
     → Reads m payloadRoom listRoom
     (Read v (r .level) mask (r .payload) (r .list) (sum (Tables.blockCount v (r .level)) (wrong v (r .level) mask modules m))
     (sum (Tables.blockCount v (r .level)) (lost v (r .level) mask m)))
+
+-- ---- beyond the bound
+
+-- a block of a drawn symbol, read at the drawn level and mask, that stands for another codeword than was drawn: at least n + 1 − floor((room − e)/2) of its
+-- codewords are wrong or lost
+abbrev pub DrawnMisread : Type 0
+DrawnMisread = (r : Request) (out v mask : ℕ) (modules m : List ℕ) (b : ℕ) (c : List ℕ) (t e : ℕ) → Bytes r → draw r out ≡ Drawn v mask modules
+    → b < Tables.blockCount v (r .level) → BlockStands v (r .level) (received v mask m) b c t e → c ≢ blockWord v (r .level) (received v mask modules) b
+    → Tables.checkCount v (r .level) + 1 ≤ wrong v (r .level) mask modules m b + lost v (r .level) mask m b + (Tables.room v (r .level) - e) / 2
 
 -- ---- "two matrices of one side that agree on data, format and version modules, the surplus left out, get the same answer"
 

@@ -2,6 +2,7 @@ pub mod Data
 pub mod Mending
 pub mod Numbers
 pub mod Only
+pub mod Passing
 pub mod Search
 pub mod Some
 pub mod Telling

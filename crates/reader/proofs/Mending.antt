@@ -1,6 +1,5 @@
 -- A loop that corrects the blocks one after the other in one buffer: those passed hold the codewords that they stand for, those ahead are as
 -- they were. A block's part is lent, and comes back with what the corrector left; no other block's part is touched.
--- Assumes nothing.
 use mathlib.Core.Path.{_≡_, refl, sym, ap, ap₂, subst, subst₂, _∙_}
 use mathlib.Core.Logic.{⊎-elim}
 use mathlib.Core.List.{List, _++_}
@@ -14,7 +13,7 @@ use lib.Seq.{take-at, drop-at, drop-drop, length-take-le, take-append-le, drop-a
 use Rattle.basics.specs.Sums.{sum}
 use Rattle.basics.proofs.Sums.{sum-same, sum-mono}
 use Rattle.tables.specs.Tables.{Lawful, total, room, blockCount, checkCount, blockLength}
-use Rattle.tables.proofs.Rules.{room-most, checks-most}
+use Rattle.tables.proofs.Rules.{room-most, checks-most, blocks-most}
 use Rattle.corrector.specs.declared.Counts.{Counts}
 use Rattle.corrector.specs.declared.Correction.{Correction}
 use Rattle.corrector.specs.declared.Correction.the-variants.{Stood, NoneStands}
@@ -22,7 +21,7 @@ use Rattle.corrector.specs.Correct.{Corrected}
 use Rattle.code.specs.Code.{Stands, differing}
 use Rattle.blocks.specs.Blocks.{blockOf, blockOffset}
 use Rattle.blocks.proofs.Dealing.{offset-next, offset-end}
-use Rattle.reader.specs.Steps.{Standing, wrongIn, lostIn}
+use Rattle.reader.specs.Steps.{Standing, wrongIn, lostIn, AllMended}
 
 -- ---- parts of a list one of whose parts was lent
 
@@ -87,6 +86,18 @@ mending-none v level w f =
       unreadable-sum = refl;
       differing-small = omega arith;
       unreadable-small = omega arith;
+    }
+
+-- the loop has passed every block
+pub mending-all : (v level : ℕ) (w₀ f : List ℕ) (a b : ℕ) (w : List ℕ) (t e : ℕ) → Mending v level w₀ f a b w t e → blockCount v level ≤ b
+    → AllMended v level w₀ f w (record { differing = t; unreadable = e })
+mending-all v level w₀ f a b w t e m h =
+    let all : b ≡ blockCount v level = omega (arith, m .few) in
+    record {
+      long = m .long;
+      stand = λ k l. m .stand k (omega arith);
+      differing-sum = m .differing-sum ∙ ap (λ (n : ℕ). sum n (wrongIn v level w₀ f w)) all;
+      unreadable-sum = m .unreadable-sum ∙ ap (λ (n : ℕ). sum n (lostIn v level f)) all;
     }
 
 -- the part that starts at a block's offset is the block
@@ -168,43 +179,71 @@ module _ (v level : ℕ) (lawful : Lawful v level) (w₀ f w ys : List ℕ) (a b
           unreadable-small = omega (arith, m .unreadable-small, small .1);
         }
 
--- ---- a turn, as the code has it: n, the room and the block's length come from the tables, and the part ends at a + long
+-- ---- a turn
 
-module _ (v level : ℕ) (lawful : Lawful v level) (w₀ f w ys : List ℕ) (a b t e n bound long : ℕ) (m : Mending v level w₀ f a b w t e) (h : b < blockCount v level)
-    (whole : length w₀ ≡ total v) (hn : n ≡ checkCount v level) (hr : bound ≡ room v level) (hl : long ≡ blockLength v level b) (r : Correction)
-    (c : Corrected n bound (take (a + long - a) (drop a w)) (take (a + long - a) (drop a f)) ys r)
-  where
-    -- the part without the difference in it
-    plain : Corrected (checkCount v level) (room v level) (take (blockLength v level b) (drop a w)) (take (blockLength v level b) (drop a f)) ys r
-    plain =
-        subst₂ (λ (x y : ℕ). Corrected (checkCount v level) (room v level) (take x (drop a w)) (take y (drop a f)) ys r)
-        (add-sub-cancel-left a long ∙ hl) (add-sub-cancel-left a long ∙ hl)
-        (subst₂ (λ (x y : ℕ). Corrected x y (take (a + long - a) (drop a w)) (take (a + long - a) (drop a f)) ys r) hn hr c)
+-- what is known once the block is corrected, as the code has it: n, the room and the block's length come from the tables, and the part ends at a + long
+pub record Turn : Type 0 where
+  pub v : ℕ
+  pub level : ℕ
+  pub w₀ : List ℕ
+  pub f : List ℕ
+  pub w : List ℕ
+  pub ys : List ℕ
+  pub a : ℕ
+  pub b : ℕ
+  pub t : ℕ
+  pub e : ℕ
+  pub n : ℕ
+  pub bound : ℕ
+  pub long : ℕ
+  pub verdict : Correction
+  pub lawful : Lawful v level
+  pub mending : Mending v level w₀ f a b w t e
+  pub is-block : b < blockCount v level
+  pub whole : length w₀ ≡ total v
+  pub checks-are : n ≡ checkCount v level
+  pub bound-is : bound ≡ room v level
+  pub long-is : long ≡ blockLength v level b
+  pub given : Corrected n bound (take (a + long - a) (drop a w)) (take (a + long - a) (drop a f)) ys verdict
 
-    pub turn-stood : (k : Counts) → r ≡ Stood k → Mending v level w₀ f (a + long) (b + 1) (putMid a (a + long - a) w ys) (t + k .differing) (e + k .unreadable)
-    turn-stood k q =
-        subst₂ (λ (x y : ℕ). Mending v level w₀ f (a + x) (b + 1) (putMid a y w ys) (t + k .differing) (e + k .unreadable)) (sym hl) (sym (add-sub-cancel-left a long ∙ hl))
-        (mending-more v level lawful w₀ f w ys a b t e (k .differing) (k .unreadable) m h whole
-        (subst (Corrected (checkCount v level) (room v level) (take (blockLength v level b) (drop a w)) (take (blockLength v level b) (drop a f)) ys) q plain))
+module _ (turn : Turn) where
+  open Turn turn using (v, level, w₀, f, w, ys, a, b, t, e, n, bound, long, verdict, lawful, mending, is-block, whole, checks-are, bound-is, long-is, given)
 
-    pub turn-small : (k : Counts) → r ≡ Stood k → (k .differing ≤ 30) × (k .unreadable ≤ 30)
-    turn-small k q =
-        small v level lawful w₀ f w ys a b t e (k .differing) (k .unreadable) m h whole
-        (subst (Corrected (checkCount v level) (room v level) (take (blockLength v level b) (drop a w)) (take (blockLength v level b) (drop a f)) ys) q plain)
+  -- the part without the difference in it
+  plain : Corrected (checkCount v level) (room v level) (take (blockLength v level b) (drop a w)) (take (blockLength v level b) (drop a f)) ys verdict
+  plain =
+      subst₂ (λ (x y : ℕ). Corrected (checkCount v level) (room v level) (take x (drop a w)) (take y (drop a f)) ys verdict)
+      (add-sub-cancel-left a long ∙ long-is) (add-sub-cancel-left a long ∙ long-is)
+      (subst₂ (λ (x y : ℕ). Corrected x y (take (a + long - a) (drop a w)) (take (a + long - a) (drop a f)) ys verdict) checks-are bound-is given)
 
-    pub turn-none : r ≡ NoneStands → (ys ≡ take (a + long - a) (drop a w)) × ((d : List ℕ) (x y : ℕ) → Standing v level w₀ f b d x y → ⊥)
-    turn-none q = (
-      subst (Corrected n bound (take (a + long - a) (drop a w)) (take (a + long - a) (drop a f)) ys) q c .0,
-      λ d x y z.
-          subst (Corrected (checkCount v level) (room v level) (take (blockLength v level b) (drop a w)) (take (blockLength v level b) (drop a f)) ys) q plain .1 d x y
-          (subst₂ (λ (p q : List ℕ). Stands (checkCount v level) (room v level) p q d x y) (sym lent₀) (sym flags₀) z),
+  module _ (k : Counts) (q : verdict ≡ Stood k) where
+    stands : Stands (checkCount v level) (room v level) (take (blockLength v level b) (drop a w)) (take (blockLength v level b) (drop a f)) ys (k .differing) (k .unreadable)
+    stands = subst (Corrected (checkCount v level) (room v level) (take (blockLength v level b) (drop a w)) (take (blockLength v level b) (drop a f)) ys) q plain
+
+    pub turn-stood : Mending v level w₀ f (a + long) (b + 1) (putMid a (a + long - a) w ys) (t + k .differing) (e + k .unreadable)
+    turn-stood =
+        subst₂ (λ (x y : ℕ). Mending v level w₀ f (a + x) (b + 1) (putMid a y w ys) (t + k .differing) (e + k .unreadable)) (sym long-is) (sym (add-sub-cancel-left a long ∙ long-is))
+        (mending-more v level lawful w₀ f w ys a b t e (k .differing) (k .unreadable) mending is-block whole stands)
+
+    pub turn-small : (k .differing ≤ 30) × (k .unreadable ≤ 30)
+    turn-small = small v level lawful w₀ f w ys a b t e (k .differing) (k .unreadable) mending is-block whole stands
+
+    -- no sum passes the counts of all blocks
+    pub turn-sums : (t + k .differing ≤ 240) × (e + k .unreadable ≤ 240)
+    turn-sums = (
+      omega (arith, turn-small .0, mending .differing-small, is-block, blocks-most v level lawful),
+      omega (arith, turn-small .1, mending .unreadable-small, is-block, blocks-most v level lawful),
     )
-      where
-        lent₀ : take (blockLength v level b) (drop a w) ≡ blockOf v level w₀ b
-        lent₀ = part-of v level a b w (m .start) ∙ m .rest b (omega arith)
 
-        flags₀ : take (blockLength v level b) (drop a f) ≡ blockOf v level f b
-        flags₀ = part-of v level a b f (m .start)
+  module _ (q : verdict ≡ NoneStands) where
+    kept : ys ≡ take (a + long - a) (drop a w)
+    kept = subst (Corrected n bound (take (a + long - a) (drop a w)) (take (a + long - a) (drop a f)) ys) q given .0
 
-    pub turn-long : r ≡ NoneStands → length (putMid a (a + long - a) w ys) ≡ length w₀
-    turn-long q = same-len-mid a (a + long - a) w ys (ap length (turn-none q .0)) ∙ m .long
+    pub turn-none : (d : List ℕ) (x y : ℕ) → Standing v level w₀ f b d x y → ⊥
+    turn-none d x y z =
+        subst (Corrected (checkCount v level) (room v level) (take (blockLength v level b) (drop a w)) (take (blockLength v level b) (drop a f)) ys) q plain .1 d x y
+        (subst₂ (λ (p q : List ℕ). Stands (checkCount v level) (room v level) p q d x y)
+        (sym (part-of v level a b w (mending .start) ∙ mending .rest b (omega arith))) (sym (part-of v level a b f (mending .start))) z)
+
+    pub turn-long : length (putMid a (a + long - a) w ys) ≡ length w₀
+    turn-long = same-len-mid a (a + long - a) w ys (ap length kept) ∙ mending .long

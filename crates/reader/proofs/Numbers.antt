@@ -1,16 +1,20 @@
 -- The reader's refusals are 7 to 16, each exactly where the paper says so: a check's number is no later check's, and the stream's faults are 13 to 15.
--- Assumes nothing.
 use mathlib.Core.Path.{_≡_, refl, sym, ap}
-use mathlib.Core.Logic.{_≢_, inl, inr}
+use mathlib.Core.Logic.{_≢_, _↔_, inl, inr}
 use mathlib.Core.List.{List}
 use Prim.Native.Nat.{ℕ, suc, _≤_, _<_}
 use native.Mathlib.Omega.{arith}
-use Rattle.parse.specs.Parse.{Parsed, Message, Fault}
+use Rattle.basics.specs.Bits.{byteBits}
+use Rattle.tables.specs.Tables.{blockCount}
+use Rattle.parse.specs.Parse.{Parsed, Message, Fault, message}
+use Rattle.parse.specs.Faults.{UnknownMode, RunsPast, BadGroup, FirstFault}
 use Rattle.parse.proofs.Numbers.{fault-numbers}
+use Rattle.parse.proofs.Refused.{stream-refused}
 use Rattle.blocks.specs.Blocks.{dataOf}
 use Rattle.scan.specs.Received.{received}
-use Rattle.reader.specs.Reader.{Answer, Refused, answer, First, Reads, Versioned, Formatted, Corrected, Small, NoVersion, Above, OtherVersion, NoFormat, TwoFormats, NoCodeword}
+use Rattle.reader.specs.Reader.{Answer, Refused, decided, First, Reads, Versioned, Formatted, AllStand, Small, NoVersion, Above, OtherVersion, NoFormat, TwoFormats, NoCodeword, BlockStands}
 use Rattle.reader.specs.Theorems.{ReaderNumbers, ReadsRefused, PastSize, PastVersions, PastFormats, StreamFaulty}
+use Rattle.reader.proofs.Passing.{then-sized, then-plain, then-named}
 
 -- ---- a check's own number, and the later ones
 
@@ -32,20 +36,28 @@ from : {F L : Type 0} {n : ℕ} (k : ℕ) → First F n (Refused k) L → n ≤ 
 from {n = n} k (inl p) h later = let e = same-number k n (p .1) in (omega arith, omega arith)
 from k (inr p) h later = let l = later (p .1) in (omega (arith, l .0), l .1)
 
-given : (v level mask t e k : ℕ) (p : Parsed) → Refused k ≡ answer v level mask t e p → p ≡ Fault k
+given : (v level mask t e k : ℕ) (p : Parsed) → Refused k ≡ decided v level mask t e p → p ≡ Fault k
 given v level mask t e k (Message q r) h = absurd (let z : _≡_ {A = ℕ} 0 1 = cc in omega arith)
 given v level mask t e k (Fault n) h = ap Fault (sym (same-number k n h))
 
-corrected-faulty : (v level mask k : ℕ) (bs : List ℕ) → Corrected v level mask bs (Refused k) → StreamFaulty v level bs k
-corrected-faulty v level mask k bs c =
+-- every block stands for a codeword, and the stream of their data has a fault with this number
+record StreamRefuses (v level : ℕ) (bs : List ℕ) (k : ℕ) : Type 0 where
+  blocks : ℕ → List ℕ
+  ts : ℕ → ℕ
+  es : ℕ → ℕ
+  stand : (b : ℕ) → b < blockCount v level → BlockStands v level bs b (blocks b) (ts b) (es b)
+  fault : message v (dataOf v level blocks) ≡ Fault k
+
+stream-faulty : (v level mask k : ℕ) (bs : List ℕ) → AllStand v level mask bs (Refused k) → StreamRefuses v level bs k
+stream-faulty v level mask k bs c =
     record { blocks = c .blocks; ts = c .ts; es = c .es; stand = c .stand; fault = given v level mask _ _ k _ (c .gives) }
 
-faulty-number : (v level k : ℕ) (bs : List ℕ) → StreamFaulty v level bs k → (13 ≤ k) × (k ≤ 15)
+faulty-number : (v level k : ℕ) (bs : List ℕ) → StreamRefuses v level bs k → (13 ≤ k) × (k ≤ 15)
 faulty-number v level k bs f = fault-numbers v k (dataOf v level (f .blocks)) (f .fault)
 
 module _ (m : List ℕ) (k : ℕ) where
   formatted-number : (v : ℕ) → Formatted v m (Refused k) → (12 ≤ k) × (k ≤ 15)
-  formatted-number v f = from k (f .then) (omega arith) (λ c. faulty-number v (f .level) k _ (corrected-faulty v (f .level) (f .mask) k _ c))
+  formatted-number v f = from k (f .then) (omega arith) (λ c. faulty-number v (f .level) k _ (stream-faulty v (f .level) (f .mask) k _ c))
 
   from-eleven : (v : ℕ) → First (TwoFormats v m) 11 (Refused k) (Formatted v m (Refused k)) → (11 ≤ k) × (k ≤ 15)
   from-eleven v f = from k f (omega arith) (formatted-number v)
@@ -71,25 +83,6 @@ reader-numbers m payloadRoom listRoom k (inr p) = let l = from-seven m k (p .1) 
 -- ---- each number where its check refuses
 
 module _ (m : List ℕ) (payloadRoom listRoom : ℕ) where
-  -- an answer that is given by the checks from 8 on
-  then-sized : (v : ℕ) (a : Answer) → PastSize m payloadRoom listRoom v
-      → First (Above m) 8 a (First (OtherVersion v m) 9 a (First (NoFormat v m) 10 a (First (TwoFormats v m) 11 a (Formatted v m a))))
-      → Reads m payloadRoom listRoom a
-  unfolding Reads
-  then-sized v a s f = inr (s .large, inr (λ n. n v (s .square), record { version = v; sized = s .square; then = f }))
-
-  -- .. from 10 on
-  then-plain : (v : ℕ) (a : Answer) → PastVersions m payloadRoom listRoom v → First (NoFormat v m) 10 a (First (TwoFormats v m) 11 a (Formatted v m a))
-      → Reads m payloadRoom listRoom a
-  then-plain v a p f = then-sized v a (p .sized) (inr (p .low, inr (p .same, f)))
-
-  -- .. from 12 on
-  then-named : (v level mask : ℕ) (a : Answer) → PastFormats m payloadRoom listRoom v level mask
-      → First (NoCodeword v level (received v mask m)) 12 a (Corrected v level mask (received v mask m) a) → Reads m payloadRoom listRoom a
-  then-named v level mask a n f =
-      then-plain v a (n .plain)
-      (inr (λ z. z (n .copy) level mask (n .stands), inr (n .one, record { copy = n .copy; level = level; mask = mask; stands = n .stands; then = f })))
-
   module _ (k : ℕ) (r : Reads m payloadRoom listRoom (Refused k)) where
     is-small : k ≡ 16 → Small payloadRoom listRoom
     unfolding Reads
@@ -117,13 +110,30 @@ module _ (m : List ℕ) (payloadRoom listRoom : ℕ) where
     -- and up to 11
     named : 11 < k → k < 16
         → (v : ℕ) × (level : ℕ) × (mask : ℕ) × PastFormats m payloadRoom listRoom v level mask
-        × First (NoCodeword v level (received v mask m)) 12 (Refused k) (Corrected v level mask (received v mask m) (Refused k))
+        × First (NoCodeword v level (received v mask m)) 12 (Refused k) (AllStand v level mask (received v mask m) (Refused k))
     named h l =
         let p = plain (omega arith) l in
         let a = past k (p .2) (λ e. omega arith) in
         let b = past k (a .1) (λ e. omega arith) in
         let f = b .1 in
         (p .0, f .level, f .mask, record { plain = p .1; copy = f .copy; stands = f .stands; one = b .0 }, f .then)
+
+  -- a number of the stream, in the words that say when it is given
+  worded : (k : ℕ) (Faulty : ℕ → List ℕ → Type 0) → 13 ≤ k → k ≤ 15
+      → ((v : ℕ) (held : List ℕ) → (message v held ≡ Fault k) ↔ FirstFault v (Faulty v) (byteBits held))
+      → Reads m payloadRoom listRoom (Refused k)
+      ↔ ((v : ℕ) × (level : ℕ) × (mask : ℕ) × PastFormats m payloadRoom listRoom v level mask × StreamFaulty v level (received v mask m) (Faulty v))
+  worded k Faulty l h says = (
+    λ r. let n = named k r (omega arith) (omega arith) in
+        let f = stream-faulty (n .0) (n .1) (n .2) k _ (past k (n .4) (λ e. omega arith) .1) in
+        (n .0, n .1, n .2, n .3, record { blocks = f .blocks; ts = f .ts; es = f .es; stand = f .stand; fault = says (n .0) _ .0 (f .fault) }),
+    λ s. let f = s .4 in
+        then-named m payloadRoom listRoom (s .0) (s .1) (s .2) (Refused k) (s .3)
+        (inr (
+          λ n. n .2 (f .blocks (n .0)) (f .ts (n .0)) (f .es (n .0)) (f .stand (n .0) (n .1)),
+          record { blocks = f .blocks; ts = f .ts; es = f .es; stand = f .stand; gives = ap (decided (s .0) (s .1) (s .2) _ _) (sym (says (s .0) _ .1 (f .fault))) },
+        )),
+  )
 
 pub reads-refused : ReadsRefused
 unfolding Reads
@@ -162,18 +172,11 @@ reads-refused m payloadRoom listRoom =
           n .2,
           n .3,
           here 12 (n .4)
-              (λ c e. omega (arith, faulty-number (n .0) (n .1) 12 _ (corrected-faulty (n .0) (n .1) (n .2) 12 _ c) .0)) refl,
+              (λ c e. omega (arith, faulty-number (n .0) (n .1) 12 _ (stream-faulty (n .0) (n .1) (n .2) 12 _ c) .0)) refl,
         ),
         λ s. then-named m payloadRoom listRoom (s .0) (s .1) (s .2) (Refused 12) (s .3) (inl (s .4, refl)),
       );
-      stream = λ k l h. (
-        λ r. let n = named m payloadRoom listRoom k r (omega arith) (omega arith) in
-            (n .0, n .1, n .2, n .3, corrected-faulty (n .0) (n .1) (n .2) k _ (past k (n .4) (λ e. omega arith) .1)),
-        λ s. let f = s .4 in
-            then-named m payloadRoom listRoom (s .0) (s .1) (s .2) (Refused k) (s .3)
-            (inr (
-              λ n. n .2 (f .blocks (n .0)) (f .ts (n .0)) (f .es (n .0)) (f .stand (n .0) (n .1)),
-              record { blocks = f .blocks; ts = f .ts; es = f .es; stand = f .stand; gives = ap (answer (s .0) (s .1) (s .2) _ _) (sym (f .fault)) },
-            )),
-      );
+      thirteen = worded m payloadRoom listRoom 13 (λ v. UnknownMode) (omega arith) (omega arith) (λ v held. stream-refused v held .thirteen);
+      fourteen = worded m payloadRoom listRoom 14 RunsPast (omega arith) (omega arith) (λ v held. stream-refused v held .fourteen);
+      fifteen = worded m payloadRoom listRoom 15 BadGroup (omega arith) (omega arith) (λ v held. stream-refused v held .fifteen);
     }

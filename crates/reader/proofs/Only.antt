@@ -1,6 +1,5 @@
 -- A matrix has at most one answer, since at most one codeword stands for a block and at most one word for a format copy:
 -- each check passes or not, and what a later check rests on is fixed by the earlier ones.
--- Assumes nothing.
 use mathlib.Core.Path.{_≡_, sym, ap, ap₂, subst, subst₂, _∙_}
 use mathlib.Core.Logic.{_≢_, inl, inr, by-cases}
 use mathlib.Core.List.{List, map}
@@ -20,8 +19,8 @@ use Rattle.words.proofs.Bits.{format-bits-lt, bits-level, bits-mask}
 use Rattle.parse.specs.Parse.{message}
 use Rattle.blocks.specs.Blocks.{gathered, dataOf}
 use Rattle.scan.specs.Received.{received}
-use Rattle.reader.specs.Reader.{Answer, answer, First, Reads, Versioned, Formatted, FormatStands, Corrected, Above, OtherVersion, NoFormat, TwoFormats, NoCodeword, blockWord, blockFlags, payloadAfter, listAfter}
-use Rattle.reader.specs.Answers.{answered}
+use Rattle.reader.specs.Reader.{Answer, decided, First, Reads, Versioned, Formatted, FormatStands, AllStand, Above, OtherVersion, NoFormat, TwoFormats, NoCodeword, blockWord, blockFlags, payloadAfter, listAfter}
+use Rattle.reader.specs.Answers.{answeredOf}
 use Rattle.reader.specs.Theorems.{ReadsOnly, AnswersOnly}
 
 first-only : {F L M : Type 0} {n : ℕ} {a b : Answer} → First F n a L → First F n b M → (L → M → a ≡ b) → a ≡ b
@@ -38,11 +37,11 @@ unfolding blockWord gathered
 block-short v level b bs hv lv hl =
     rw (length-map, length-upTo) (omega (arith, block-length-most v level b (record { least = lv; most = omega arith; levels = omega arith })))
 
-corrected-only : (v level mask : ℕ) (bs : List ℕ) (a b : Answer) → v < 11 → 1 ≤ v → level < 4 → Corrected v level mask bs a → Corrected v level mask bs b → a ≡ b
+stand-only : (v level mask : ℕ) (bs : List ℕ) (a b : Answer) → v < 11 → 1 ≤ v → level < 4 → AllStand v level mask bs a → AllStand v level mask bs b → a ≡ b
 unfolding dataOf
-corrected-only v level mask bs a b hv lv hl x y =
+stand-only v level mask bs a b hv lv hl x y =
     x .gives
-    ∙ ap₂ (λ (t : ℕ) (k : ℕ × List ℕ). answer v level mask t (k .0) (message v (k .1)))
+    ∙ ap₂ (λ (t : ℕ) (k : ℕ × List ℕ). decided v level mask t (k .0) (message v (k .1)))
     (sum-same B (x .ts) (y .ts) (λ k l. only k l .1))
     (λ i. (sum-same B (x .es) (y .es) (λ k l. only k l .2) i, held i))
     ∙ sym (y .gives)
@@ -72,10 +71,10 @@ bits-only v m c l k c′ l′ k′ one x y = by-cases (ℕ-discrete (formatBits 
     pick (suc (suc n)) c′ x y d = let h = x .which in omega arith
 
 formatted-only : (v : ℕ) (m : List ℕ) (a b : Answer) → v < 11 → 1 ≤ v → (TwoFormats v m → ⊥) → Formatted v m a → Formatted v m b → a ≡ b
-formatted-only v m a b hv lv one x y = first-only (x .then) (subst₂ After (sym same-level) (sym same-mask) (y .then)) (corrected-only v (x .level) (x .mask) (received v (x .mask) m) a b hv lv (x .stands .levels))
+formatted-only v m a b hv lv one x y = first-only (x .then) (subst₂ After (sym same-level) (sym same-mask) (y .then)) (stand-only v (x .level) (x .mask) (received v (x .mask) m) a b hv lv (x .stands .levels))
   where
     After : ℕ → ℕ → Type 0
-    After level mask = First (NoCodeword v level (received v mask m)) 12 b (Corrected v level mask (received v mask m) b)
+    After level mask = First (NoCodeword v level (received v mask m)) 12 b (AllStand v level mask (received v mask m) b)
 
     same-bits : formatBits (x .level) (x .mask) ≡ formatBits (y .level) (y .mask)
     same-bits = bits-only v m (x .copy) (x .level) (x .mask) (y .copy) (y .level) (y .mask) one (x .stands) (y .stands)
@@ -108,7 +107,7 @@ reads-only m payloadRoom listRoom a b x y = first-only x y (λ p q. first-only p
 pub answers-only : AnswersOnly
 answers-only m payload list r r₁ payload′ payload₁ list′ list₁ x y =
     let e = reads-only m (length payload) (length list) (x .answer) (y .answer) (x .reads) (y .reads) in (
-      x .says ∙ ap answered e ∙ sym (y .says),
+      x .says ∙ ap answeredOf e ∙ sym (y .says),
       x .payload-memory ∙ ap (λ (a : Answer). payloadAfter a payload) e ∙ sym (y .payload-memory),
       x .list-memory ∙ ap (λ (a : Answer). listAfter a list) e ∙ sym (y .list-memory),
     )

@@ -1,5 +1,4 @@
 -- What holds of some number below a bound, or of some word of bytes, or of none: each is tried, in the logic alone.
--- Assumes nothing.
 use mathlib.Core.Path.{_≡_, refl, ap, subst}
 use mathlib.Core.Logic.{_⊎_, inl, inr, by-cases}
 use mathlib.Core.List.{List, [], _∷_}

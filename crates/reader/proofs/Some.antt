@@ -1,6 +1,5 @@
 -- Every matrix has an answer: each check passes or not, since the versions, the modules, the words that a copy may stand for and the words of a block's
 -- length are finitely many.
--- Assumes nothing.
 use mathlib.Core.Path.{_≡_, refl}
 use mathlib.Core.Logic.{_≢_, _⊎_, inl, inr, by-cases, Dec·and}
 use mathlib.Core.List.{List, []}
@@ -24,7 +23,7 @@ use Rattle.scan.specs.Received.{copied, readable, received}
 use Rattle.reader.specs.declared.Meta.{Meta}
 use Rattle.reader.specs.declared.Format.{Format}
 use Rattle.reader.specs.declared.Format.the-variants.{Word as Formed, NoWord as NotFormed}
-use Rattle.reader.specs.Reader.{Answer, Refused, answer, First, Reads, Versioned, Formatted, Corrected, Small, NoVersion, Above, OtherVersion, NoFormat, TwoFormats, NoCodeword, BlockStands, blockWord, blockFlags}
+use Rattle.reader.specs.Reader.{Answer, Refused, decided, First, Reads, Versioned, Formatted, AllStand, Small, NoVersion, Above, OtherVersion, NoFormat, TwoFormats, NoCodeword, BlockStands, blockWord, blockFlags}
 use Rattle.reader.specs.Steps.{FormatsRead}
 use Rattle.reader.specs.Theorems.{ReadsSome}
 use Rattle.reader.proofs.Search.{SomeOrNone, negated, search, told, every, search-words}
@@ -81,15 +80,15 @@ module _ (v level mask : ℕ) (bs : List ℕ) where
   holds b (yes s) n = s .3
   holds b (no q) n = absurd (n q)
 
-  corrected-some : (a : Answer) × First (NoCodeword v level bs) 12 a (Corrected v level mask bs a)
-  corrected-some = by (search (blockCount v level) (λ b. Block b → ⊥) (λ b. negated (block b)))
+  stand-some : (a : Answer) × First (NoCodeword v level bs) 12 a (AllStand v level mask bs a)
+  stand-some = by (search (blockCount v level) (λ b. Block b → ⊥) (λ b. negated (block b)))
     where
-      by : SomeOrNone (blockCount v level) (λ b. Block b → ⊥) → (a : Answer) × First (NoCodeword v level bs) 12 a (Corrected v level mask bs a)
+      by : SomeOrNone (blockCount v level) (λ b. Block b → ⊥) → (a : Answer) × First (NoCodeword v level bs) 12 a (AllStand v level mask bs a)
       by (inl s) = (Refused 12, inl ((s .0, s .1, λ c t e w. s .2 (c, t, e, w)), refl))
       by (inr s) =
           let stand : (b : ℕ) → b < blockCount v level → BlockStands v level bs b (word-of b (block b)) (wrong-of b (block b)) (lost-of b (block b)) =
           λ b h. holds b (block b) (s b h) in (
-            answer v level mask (sum (blockCount v level) (λ b. wrong-of b (block b))) (sum (blockCount v level) (λ b. lost-of b (block b)))
+            decided v level mask (sum (blockCount v level) (λ b. wrong-of b (block b))) (sum (blockCount v level) (λ b. lost-of b (block b)))
                 (message v (dataOf v level (λ b. word-of b (block b)))),
             inr (
               λ n. n .2 _ _ _ (stand (n .0) (n .1)),
@@ -165,7 +164,7 @@ formatted-some m v = by (formats m v .0) (formats m v .1)
     by (NotFormed k) (inl r) = (Refused 10, inl (r .1, refl))
     by (NotFormed k) (inr r) = (Refused 11, inr (r .1, inl (r .2, refl)))
     by (Formed w) r =
-        let c = corrected-some v (w .level) (w .mask) (received v (w .mask) m) in (
+        let c = stand-some v (w .level) (w .mask) (received v (w .mask) m) in (
           c .0,
           inr (
             λ n. n (r .copy) (w .level) (w .mask) (r .stands),

@@ -1,6 +1,5 @@
 -- What the copies of the version and format words stand for, from the one word near each: at most one word stands, so the answer of each copy
 -- decides the step.
--- Assumes nothing.
 use mathlib.Core.Path.{_≡_, refl, sym, subst, subst₂, _∙_}
 use mathlib.Core.Logic.{inl, inr}
 use mathlib.Core.List.{List}
@@ -22,6 +21,7 @@ use Rattle.reader.specs.declared.Copies.the-variants.{Agreeing, Other}
 use Rattle.reader.specs.declared.Format.the-variants.{NoWord as NotFormatted}
 use Rattle.reader.specs.Reader.{OtherVersion, FormatStands, NoFormat}
 use Rattle.reader.specs.Steps.{VersionCopy, FormatRead, FormatsRead}
+use Rattle.reader.proofs.Passing.{step-passed}
 
 -- ---- a copy as it was read
 
@@ -41,22 +41,22 @@ format-given m places c f r = subst₂ (λ (x y : ℕ). FormatFound x y f) (r .b
 
 module _ (m : List ℕ) (v copy : ℕ) (drawn : 7 ≤ v) (which : copy < 2) (f : Found) (found : VersionFound (copied m (versionPlaces v copy)) (readable m (versionPlaces v copy)) f) where
   pub copy-none : f ≡ NoWord → VersionCopy v m copy Agreeing
-  copy-none e x n s = subst (VersionFound (copied m (versionPlaces v copy)) (readable m (versionPlaces v copy))) e found x (s .near)
+  copy-none e = inr (refl, λ x n s. subst (VersionFound (copied m (versionPlaces v copy)) (readable m (versionPlaces v copy))) e found x (s .near))
 
   near : (x : ℕ) → f ≡ Word x → VersionNear (copied m (versionPlaces v copy)) (readable m (versionPlaces v copy)) x
   near x e = subst (VersionFound (copied m (versionPlaces v copy)) (readable m (versionPlaces v copy))) e found
 
   pub copy-same : (x w : ℕ) → f ≡ Word x → w ≡ x → w ≡ v → VersionCopy v m copy Agreeing
-  copy-same x w e p q y n s =
+  copy-same x w e p q =
       let k = near x e in
-      n (version-only _ _ y x (s .near .least) (s .near .most) (k .least) (k .most) (s .near .near) (k .near) ∙ sym p ∙ q)
+      inr (refl, λ y n s. n (version-only _ _ y x (s .near .least) (s .near .most) (k .least) (k .most) (s .near .near) (k .near) ∙ sym p ∙ q))
 
   pub copy-other : (x w : ℕ) → f ≡ Word x → w ≡ x → (w ≡ v → ⊥) → VersionCopy v m copy Other
-  copy-other x w e p q = (x, (λ z. q (p ∙ z)), record { which = which; drawn = drawn; near = near x e })
+  copy-other x w e p q = inl (refl, (x, (λ z. q (p ∙ z)), record { which = which; drawn = drawn; near = near x e }))
 
 pub versions-agree : (m : List ℕ) (v : ℕ) → VersionCopy v m 0 Agreeing → VersionCopy v m 1 Agreeing → OtherVersion v m → ⊥
-versions-agree m v a b (zero, x, n, s) = a x n s
-versions-agree m v a b (suc zero, x, n, s) = b x n s
+versions-agree m v a b (zero, x, n, s) = step-passed 8 a x n s
+versions-agree m v a b (suc zero, x, n, s) = step-passed 8 b x n s
 versions-agree m v a b (suc (suc k), x, n, s) = let h = s .which in omega arith
 
 -- ---- format copies
@@ -77,6 +77,10 @@ near-of m v copy l k s = record { lawful = format-bits-lt l k (s .levels) (s .ma
 only-of : (m : List ℕ) (v copy l k bits : ℕ) → FormatNear (copied m (formatPlaces v copy)) (readable m (formatPlaces v copy)) bits → FormatStands v m copy l k → formatBits l k ≡ bits
 only-of m v copy l k bits n s = format-only _ _ _ _ (format-bits-lt l k (s .levels) (s .masks)) (n .lawful) (s .near) (n .near)
 
+-- what a copy stands for is five bits
+pub found-lawful : (copy readable : ℕ) (f : Found) → FormatFound copy readable f → (x : ℕ) → f ≡ Word x → x < 32
+found-lawful copy readable f found x e = subst (FormatFound copy readable) e found .lawful
+
 module _ (m : List ℕ) (v : ℕ) (f g : Found)
     (first : FormatFound (copied m (formatPlaces v 0)) (readable m (formatPlaces v 0)) f)
     (second : FormatFound (copied m (formatPlaces v 1)) (readable m (formatPlaces v 1)) g)
@@ -87,10 +91,10 @@ module _ (m : List ℕ) (v : ℕ) (f g : Found)
     second-none : g ≡ NoWord → (l k : ℕ) → FormatStands v m 1 l k → ⊥
     second-none e l k s = subst (FormatFound (copied m (formatPlaces v 1)) (readable m (formatPlaces v 1))) e second (formatBits l k) (near-of m v 1 l k s)
 
-    pub first-near : (x : ℕ) → f ≡ Word x → FormatNear (copied m (formatPlaces v 0)) (readable m (formatPlaces v 0)) x
+    first-near : (x : ℕ) → f ≡ Word x → FormatNear (copied m (formatPlaces v 0)) (readable m (formatPlaces v 0)) x
     first-near x e = subst (FormatFound (copied m (formatPlaces v 0)) (readable m (formatPlaces v 0))) e first
 
-    pub second-near : (y : ℕ) → g ≡ Word y → FormatNear (copied m (formatPlaces v 1)) (readable m (formatPlaces v 1)) y
+    second-near : (y : ℕ) → g ≡ Word y → FormatNear (copied m (formatPlaces v 1)) (readable m (formatPlaces v 1)) y
     second-near y e = subst (FormatFound (copied m (formatPlaces v 1)) (readable m (formatPlaces v 1))) e second
 
     none : f ≡ NoWord → g ≡ NoWord → NoFormat v m

@@ -1,5 +1,4 @@
 -- The answer that a matrix gets. It is a relation: a block stands for a codeword, and nothing here searches for it.
--- Assumes nothing.
 use mathlib.Core.Path.{_≡_}
 use mathlib.Core.Logic.{_≢_, _⊎_}
 use mathlib.Core.List.{List, _++_}
@@ -51,9 +50,10 @@ pub data Answer : Type 0 where
   Read : (version level mask : ℕ) (payload list : List ℕ) (t e : ℕ) → Answer
   Refused : ℕ → Answer
 
-abbrev pub answer : (v level mask t e : ℕ) → Parsed → Answer
-answer v level mask t e (Message payload list) = Read v level mask payload list t e
-answer v level mask t e (Fault n) = Refused n
+-- what the stream decides, once every block stands
+abbrev pub decided : (v level mask t e : ℕ) → Parsed → Answer
+decided v level mask t e (Message payload list) = Read v level mask payload list t e
+decided v level mask t e (Fault n) = Refused n
 
 -- "the first fault decides"
 abbrev pub First : (fault : Type 0) (n : ℕ) (a : Answer) (later : Type 0) → Type 0
@@ -93,12 +93,12 @@ NoCodeword v level bs = (b : ℕ) × (b < blockCount v level) × ((c : List ℕ)
 -- ---- the rule
 
 -- every block stands for its codeword, and then the stream decides
-pub record Corrected (v level mask : ℕ) (bs : List ℕ) (a : Answer) : Type 0 where
+pub record AllStand (v level mask : ℕ) (bs : List ℕ) (a : Answer) : Type 0 where
   pub blocks : ℕ → List ℕ
   pub ts : ℕ → ℕ
   pub es : ℕ → ℕ
   pub stand : (b : ℕ) → b < blockCount v level → BlockStands v level bs b (blocks b) (ts b) (es b)
-  pub gives : a ≡ answer v level mask (sum (blockCount v level) ts) (sum (blockCount v level) es) (message v (dataOf v level blocks))
+  pub gives : a ≡ decided v level mask (sum (blockCount v level) ts) (sum (blockCount v level) es) (message v (dataOf v level blocks))
 
 -- a format copy stands for the level and the mask
 pub record Formatted (v : ℕ) (m : List ℕ) (a : Answer) : Type 0 where
@@ -106,7 +106,7 @@ pub record Formatted (v : ℕ) (m : List ℕ) (a : Answer) : Type 0 where
   pub level : ℕ
   pub mask : ℕ
   pub stands : FormatStands v m copy level mask
-  pub then : First (NoCodeword v level (received v mask m)) 12 a (Corrected v level mask (received v mask m) a)
+  pub then : First (NoCodeword v level (received v mask m)) 12 a (AllStand v level mask (received v mask m) a)
 
 -- "side length fixes the version"
 pub record Versioned (m : List ℕ) (a : Answer) : Type 0 where

@@ -1,13 +1,13 @@
 -- What is shown of the reader's answers beside the contract of `read`, each a statement with a name.
--- Assumes nothing.
 use mathlib.Core.Path.{_≡_}
 use mathlib.Core.Logic.{_↔_}
 use mathlib.Core.List.{List}
 use Prim.Native.Nat.{ℕ, _≤_, _<_}
 use lib.ListN.{length}
+use Rattle.basics.specs.Bits.{byteBits}
 use Rattle.tables.specs.Tables.{blockCount}
 use Rattle.tables.specs.Version.{Square}
-use Rattle.parse.specs.Parse.{Fault, message}
+use Rattle.parse.specs.Faults.{UnknownMode, RunsPast, BadGroup, FirstFault}
 use Rattle.blocks.specs.Blocks.{dataOf}
 use Rattle.scan.specs.Received.{received}
 use Rattle.reader.specs.declared.Answered.{Answered}
@@ -51,13 +51,13 @@ pub record PastFormats (m : List ℕ) (payloadRoom listRoom v level mask : ℕ) 
   pub stands : FormatStands v m copy level mask
   pub one : TwoFormats v m → ⊥
 
--- .. and 12: every block stands for a codeword, and the stream of their data has a fault
-pub record StreamFaulty (v level : ℕ) (bs : List ℕ) (k : ℕ) : Type 0 where
+-- .. and 12: every block stands for a codeword, and the first fault in the stream of their data is such a one
+pub record StreamFaulty (v level : ℕ) (bs : List ℕ) (Faulty : List ℕ → Type 0) : Type 0 where
   pub blocks : ℕ → List ℕ
   pub ts : ℕ → ℕ
   pub es : ℕ → ℕ
   pub stand : (b : ℕ) → b < blockCount v level → BlockStands v level bs b (blocks b) (ts b) (es b)
-  pub fault : message v (dataOf v level blocks) ≡ Fault k
+  pub fault : FirstFault v Faulty (byteBits (dataOf v level blocks))
 
 pub record RefusedWith (m : List ℕ) (payloadRoom listRoom : ℕ) : Type 0 where
   pub sixteen : Reads m payloadRoom listRoom (Refused 16) ↔ Small payloadRoom listRoom
@@ -68,9 +68,12 @@ pub record RefusedWith (m : List ℕ) (payloadRoom listRoom : ℕ) : Type 0 wher
   pub eleven : Reads m payloadRoom listRoom (Refused 11) ↔ ((v : ℕ) × PastVersions m payloadRoom listRoom v × TwoFormats v m)
   pub twelve : Reads m payloadRoom listRoom (Refused 12)
       ↔ ((v : ℕ) × (level : ℕ) × (mask : ℕ) × PastFormats m payloadRoom listRoom v level mask × NoCodeword v level (received v mask m))
-  -- 13 to 15
-  pub stream : (k : ℕ) → 13 ≤ k → k ≤ 15 → Reads m payloadRoom listRoom (Refused k)
-      ↔ ((v : ℕ) × (level : ℕ) × (mask : ℕ) × PastFormats m payloadRoom listRoom v level mask × StreamFaulty v level (received v mask m) k)
+  pub thirteen : Reads m payloadRoom listRoom (Refused 13)
+      ↔ ((v : ℕ) × (level : ℕ) × (mask : ℕ) × PastFormats m payloadRoom listRoom v level mask × StreamFaulty v level (received v mask m) UnknownMode)
+  pub fourteen : Reads m payloadRoom listRoom (Refused 14)
+      ↔ ((v : ℕ) × (level : ℕ) × (mask : ℕ) × PastFormats m payloadRoom listRoom v level mask × StreamFaulty v level (received v mask m) (RunsPast v))
+  pub fifteen : Reads m payloadRoom listRoom (Refused 15)
+      ↔ ((v : ℕ) × (level : ℕ) × (mask : ℕ) × PastFormats m payloadRoom listRoom v level mask × StreamFaulty v level (received v mask m) (BadGroup v))
 
 abbrev pub ReadsRefused : Type 0
 ReadsRefused = (m : List ℕ) (payloadRoom listRoom : ℕ) → RefusedWith m payloadRoom listRoom

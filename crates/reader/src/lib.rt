@@ -9,7 +9,7 @@ ghost use Rattle.modules.specs.Modules.{formatPlaces, versionPlaces};
 ghost use Rattle.words.specs.Words.{levelOf, maskOf};
 ghost use Rattle.words.specs.Found.{FormatFound, VersionFound};
 ghost use Rattle.scan.specs.Received.{copied, readable, received};
-ghost use Rattle.reader.specs.Steps.{ModulesRead, BlocksMended, VersionCopy, VersionsRead, FormatsRead, DataMended};
+ghost use Rattle.reader.specs.Steps.{SideRead, ModulesRead, BlocksMended, VersionCopy, VersionsRead, formatNumber, FormatsRead, Collected, DataMended};
 ghost use Rattle.reader.specs.Answers.{Answers, Finished};
 use corrector::Correction;
 use parse::Parsing;
@@ -19,6 +19,13 @@ use tables::MOST_DATA;
 use tables::MOST_LIST;
 use tables::MOST_PAYLOAD;
 use words::Found;
+
+// The version that the side length fixes.
+fn check_side(m: &[u8]) -> Fixed
+    ensures { λ r. ⌜ SideRead (now (m .entry)) r ⌝ }
+{
+    tables::version_of(m.len())
+}
 
 // Every module is light, dark or unreadable; or one is above 2.
 pub enum Checked {
@@ -204,27 +211,48 @@ fn find_format(m: &[u8], v: usize) -> Format
     }
 }
 
-// The data codewords of a matrix, each block corrected, in block order; or a block has no codeword within its bound. The other buffers are room
-// to work in: the codewords as they were sent, then block after block.
+// The number of a format's refusal.
+fn format_no(f: Format) -> u8
+    ensures { λ r. ⌜ r ≡ formatNumber f ⌝ }
+{
+    match f {
+        Format::Word(_) => 0,
+        Format::NoWord(k) => k,
+    }
+}
+
+// The codewords of a matrix and their flags, block after block.
+fn collect(m: &[u8], v: usize, level: usize, mask: usize, blocks: &mut [u8], lost: &mut [u8])
+    requires { ⌜ Lawful v level × (mask < 8) ⌝ }
+    requires { ⌜ (length (now m) ≡ side v * side v) × AtMost 2 (now m) ⌝ }
+    requires { ⌜ (length (now blocks) ≡ total v) × (length (now lost) ≡ total v) ⌝ }
+    ensures { λ _. ⌜ Collected v level (received v mask (now (m .entry))) (now (blocks .exit)) (now (lost .exit)) ⌝ }
+{
+    let n = tables::total(v);
+    let mut words = [0u8; MOST_CODEWORDS];
+    let mut flags = [0u8; MOST_CODEWORDS];
+    scan::codewords(m, v, mask, &mut words[..n], &mut flags[..n]);
+    blocks::gather(&words[..n], v, level, blocks);
+    blocks::gather(&flags[..n], v, level, lost);
+}
+
+// The data codewords of a matrix, each block corrected, in block order; or a block has no codeword within its bound. `blocks` and `lost` are room
+// for the codewords and their flags.
 fn mend_in(
     m: &[u8],
     v: usize,
     level: usize,
     mask: usize,
-    words: &mut [u8],
-    flags: &mut [u8],
     blocks: &mut [u8],
     lost: &mut [u8],
     data: &mut [u8],
 ) -> Mended
     requires { ⌜ Lawful v level × (mask < 8) ⌝ }
     requires { ⌜ (length (now m) ≡ side v * side v) × (AtMost 2 (now m) × (length (now «data») ≡ dataCount v level)) ⌝ }
-    requires { ⌜ (length (now words) ≡ total v) × ((length (now flags) ≡ total v) × ((length (now blocks) ≡ total v) × (length (now lost) ≡ total v))) ⌝ }
+    requires { ⌜ (length (now blocks) ≡ total v) × (length (now lost) ≡ total v) ⌝ }
     ensures { λ r. ⌜ DataMended v level (received v mask (now (m .entry))) (now («data» .exit)) r ⌝ }
 {
-    scan::codewords(m, v, mask, words, flags);
-    blocks::gather(words, v, level, blocks);
-    blocks::gather(flags, v, level, lost);
+    collect(m, v, level, mask, blocks, lost);
     let Mended::Within(sums) = mend_blocks(blocks, lost, v, level) else {
         return Mended::Beyond;
     };
@@ -239,21 +267,9 @@ fn mend(m: &[u8], v: usize, level: usize, mask: usize, data: &mut [u8]) -> Mende
     ensures { λ r. ⌜ DataMended v level (received v mask (now (m .entry))) (now («data» .exit)) r ⌝ }
 {
     let n = tables::total(v);
-    let mut words = [0u8; MOST_CODEWORDS];
-    let mut flags = [0u8; MOST_CODEWORDS];
     let mut blocks = [0u8; MOST_CODEWORDS];
     let mut lost = [0u8; MOST_CODEWORDS];
-    mend_in(
-        m,
-        v,
-        level,
-        mask,
-        &mut words[..n],
-        &mut flags[..n],
-        &mut blocks[..n],
-        &mut lost[..n],
-        data,
-    )
+    mend_in(m, v, level, mask, &mut blocks[..n], &mut lost[..n], data)
 }
 
 // Version, level and mask; the lengths of what was read; the sums over all blocks.
@@ -290,18 +306,19 @@ fn finish(
     let Mended::Within(sums) = mend(m, v, level, mask, held) else {
         return Answered::Refused(12);
     };
-    match parse::parse(held, v, payload, list) {
-        Parsing::Faulty(k) => Answered::Refused(k),
-        Parsing::Whole(sizes) => Answered::Read(Reading {
-            version: v,
-            level,
-            mask,
-            payload: sizes.payload,
-            segments: sizes.segments,
-            differing: sums.differing,
-            unreadable: sums.unreadable,
-        }),
-    }
+    let p = parse::parse(held, v, payload, list);
+    let Parsing::Whole(sizes) = p else {
+        return Answered::Refused(parse::parsing_no(p));
+    };
+    Answered::Read(Reading {
+        version: v,
+        level,
+        mask,
+        payload: sizes.payload,
+        segments: sizes.segments,
+        differing: sums.differing,
+        unreadable: sums.unreadable,
+    })
 }
 
 // The answer that a matrix gets; its payload and its segments at the fronts of the buffers. A refusal leaves both as they were.
@@ -314,7 +331,7 @@ pub fn read(m: &[u8], payload: &mut [u8], list: &mut [u16]) -> Answered
     if list.len() < MOST_LIST {
         return Answered::Refused(16);
     }
-    let Fixed::Version(v) = tables::version_of(m.len()) else {
+    let Fixed::Version(v) = check_side(m) else {
         return Answered::Refused(7);
     };
     let Checked::Fine = check_modules(m) else {
@@ -323,9 +340,9 @@ pub fn read(m: &[u8], payload: &mut [u8], list: &mut [u16]) -> Answered
     let Copies::Agreeing = check_versions(m, v) else {
         return Answered::Refused(9);
     };
-    let meta = match find_format(m, v) {
-        Format::Word(w) => w,
-        Format::NoWord(k) => return Answered::Refused(k),
+    let f = find_format(m, v);
+    let Format::Word(meta) = f else {
+        return Answered::Refused(format_no(f));
     };
     let level = meta.level;
     let mask = meta.mask;

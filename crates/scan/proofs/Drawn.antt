@@ -1,6 +1,5 @@
 -- Reading what was drawn gives back exactly the codewords, none unreadable, and the format and version words: each data module holds its
 -- codeword's bit flipped by the mask, and the mask taken off flips it back.
--- Assumes nothing.
 use mathlib.Core.Path.{_≡_, refl, sym, ap, _∙_}
 use mathlib.Core.Bool.{false, cond}
 use mathlib.Core.List.{List, [], _∷_, map}

@@ -1,5 +1,4 @@
 -- The kinds of a version's modules tell the data modules: a data module alone has kind 2. And the rows of flips tell the mask.
--- Assumes nothing.
 use mathlib.Core.Path.{_≡_, refl, sym, ap, _∙_}
 use mathlib.Core.Bool.{Bool, true, false, not, cond, _&&_, _||_}
 use mathlib.Core.List.{List, [], _∷_, _++_, map}

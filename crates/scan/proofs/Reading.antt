@@ -1,5 +1,4 @@
 -- What a scan of a matrix adds with each module: to the number and the flag of a codeword, and to the data modules met so far.
--- Assumes nothing.
 use mathlib.Core.Path.{_≡_, refl, sym, ap, _∙_}
 use mathlib.Core.Bool.{Bool, true, false, cond, _||_}
 use mathlib.Core.List.{List, [], _∷_, _++_, map}

@@ -1,5 +1,4 @@
 -- The whole walk: what it passes is what the definition receives, as many modules as the version has, each at most 2 where the matrix's are.
--- Assumes nothing.
 use mathlib.Core.Path.{_≡_, refl, ap, ap₂, _∙_}
 use mathlib.Core.Bool.{cond}
 use mathlib.Core.List.{List, [], _∷_, map}

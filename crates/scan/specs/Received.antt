@@ -1,6 +1,5 @@
 -- What a matrix holds, as it was read: the copies of the words with the bits that could be read, and the codewords with their flags.
 -- A module is 0 light, 1 dark, 2 unreadable.
--- Assumes nothing.
 use mathlib.Core.Bool.{cond}
 use mathlib.Core.List.{List, map}
 use Prim.Native.Nat.{ℕ, _*_, _/_, _%_}

@@ -1,5 +1,4 @@
 -- What each pass over a matrix hands on.
--- Assumes nothing.
 use mathlib.Core.Path.{_≡_}
 use mathlib.Core.Bool.{cond}
 use mathlib.Core.List.{List, map}
@@ -56,6 +55,6 @@ pub record Ready (v : ℕ) (m kinds rows out : List ℕ) : Type 0 where
   pub least : 1 ≤ v
   pub most : v ≤ lastVersion
   pub matrix : length m ≡ side v * side v
-  pub map : DataMap v kinds
+  pub marked : DataMap v kinds
   pub flips : mostSide ≤ length rows
   pub enough : side v * side v ≤ length out

@@ -1,5 +1,4 @@
 -- Cases a, b and c of the paper: the data codewords of each, computed.
--- Assumes nothing.
 use mathlib.Core.Path.{_≡_}
 use mathlib.Core.List.{List, [], _∷_}
 use Prim.Native.Nat.{ℕ}

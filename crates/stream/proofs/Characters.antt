@@ -1,5 +1,4 @@
 -- Characters and their codes: what the code of each character is, by computed tests, and that no code is above 45.
--- Assumes nothing.
 use mathlib.Core.Path.{_≡_, refl, sym, ap, _∙_}
 use mathlib.Core.Bool.{Bool, true, false, cond}
 use mathlib.Core.List.{List, [], _∷_}

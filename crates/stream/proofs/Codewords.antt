@@ -1,24 +1,19 @@
 -- The data codewords of a lawful message: as many as the version and level have, each a byte; and what the writer's buffer holds in the end.
--- Assumes nothing.
 use mathlib.Core.Path.{_≡_, ap, _∙_}
-use mathlib.Core.Bool.{true}
 use mathlib.Core.List.{List, _++_}
 use Prim.Native.Nat.{ℕ, _+_, _-_, _*_, _/_, _≤_, min}
 use native.Mathlib.Nat.{zero-add}
 use native.Mathlib.Omega.{arith}
 use lib.ListN.{length, take, replicate, length-replicate}
-use borrow.Author.Tests.{leb-true}
 use Rattle.basics.specs.Lists.{AtMost}
 use Rattle.tables.specs.Tables.{Lawful, dataCount}
+use Rattle.tables.proofs.Rules.{data-most}
 use Rattle.cursor.proofs.Fields.{with-bits-length}
-use Rattle.stream.specs.Put.{Room, Put}
-use Rattle.stream.specs.Stream.{segments, segmentsWidth, fits, pads, dataCodewords, LawfulMessage}
+use Rattle.stream.specs.Put.{RoomForBits, Put}
+use Rattle.stream.specs.Stream.{segments, pads, dataCodewords, LawfulMessage}
+use Rattle.stream.proofs.Fitting.{fit-width}
 use Rattle.stream.proofs.Padding.{frontCount, padded-is, padded-length, padded-bytes}
 use Rattle.stream.proofs.Widths.{segments-length, segments-le}
-
-fit-width : (v level : ℕ) (list : List ℕ) → fits v level list ≡ true → segmentsWidth v list ≤ 8 * dataCount v level
-unfolding fits
-fit-width v level list h = leb-true _ _ h
 
 module _ (v level : ℕ) (payload list : List ℕ) (m : LawfulMessage v level payload list) where
   -- the segments fit in the data bits
@@ -34,12 +29,12 @@ module _ (v level : ℕ) (payload list : List ℕ) (m : LawfulMessage v level pa
   codewords-bytes = padded-bytes (dataCount v level) (segments v list payload) (segments-le v list payload)
 
   -- a cleared buffer, and what it is with the segments put at its front
-  module _ (cleared : List ℕ) (n : ℕ) (h : n ≡ dataCount v level) (few : dataCount v level ≤ 274) (e : cleared ≡ replicate n 0) where
+  module _ (cleared : List ℕ) (n : ℕ) (h : n ≡ dataCount v level) (lawful : Lawful v level) (e : cleared ≡ replicate n 0) where
     cleared-length : length cleared ≡ dataCount v level
     cleared-length = ap length e ∙ length-replicate n 0 ∙ h
 
-    pub cleared-room : Room cleared 0 (segments v list payload)
-    cleared-room = record { few = omega (arith, cleared-length); fit = omega (arith, cleared-length, segments-fit) }
+    pub cleared-room : RoomForBits cleared 0 (segments v list payload)
+    cleared-room = record { few = omega (arith, cleared-length, data-most v level lawful); fit = omega (arith, cleared-length, segments-fit) }
 
     module _ (put : List ℕ) (at : ℕ) (p : Put cleared 0 (segments v list payload) put at) where
       pub put-length : length put ≡ dataCount v level

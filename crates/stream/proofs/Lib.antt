@@ -2,6 +2,7 @@ pub mod Bodies
 pub mod Cases
 pub mod Characters
 pub mod Codewords
+pub mod Fitting
 pub mod Padding
 pub mod Pairs
 pub mod Put

@@ -1,5 +1,4 @@
 -- Padding: a cleared buffer with the segments put at its front starts with their whole bytes, since all that follows them is zero bits.
--- Assumes nothing.
 use mathlib.Core.Path.{_≡_, refl, sym, ap, ap₂, _∙_}
 use mathlib.Core.List.{List, [], _∷_, _++_, append-assoc}
 use Prim.Native.Nat.{ℕ, zero, suc, _+_, _-_, _*_, _/_, _%_, _<_, _≤_, min}
@@ -112,7 +111,8 @@ module _ (most : ℕ) (bs : List ℕ) (h : length bs ≤ 8 * most) where
       ∙ ap (λ (l : List ℕ). bytes frontCount (bs ++ l)) (rw (zero-add, zero-bits) (drop-replicate (length bs) (8 * most) 0))
       ∙ front-bits (8 * most - length bs) (omega (arith, front-le))
       ∙ sym (front-bits (min 4 (8 * most - length bs) + 7) (omega arith))
-      ∙ ap₂ bytes (ap (λ (n : ℕ). (n + 7) / 8) (sym closed)) (ap (λ (l : List ℕ). bs ++ l) (sym (replicate-append-replicate (min 4 (8 * most - length bs)) 7 0)) ∙ sym (append-assoc bs _ _))
+      ∙ ap₂ bytes (ap (λ (n : ℕ). (n + 7) / 8) (sym closed))
+      (ap (λ (l : List ℕ). bs ++ l) (sym (replicate-append-replicate (min 4 (8 * most - length bs)) 7 0)) ∙ sym (append-assoc bs _ _))
 
   -- the whole buffer, once the pads stand behind those bytes
   pub padded-is : take frontCount (withBits (replicate most 0) 0 bs) ++ pads (most - frontCount) ≡ padded most bs
@@ -126,8 +126,9 @@ module _ (most : ℕ) (bs : List ℕ) (h : length bs ≤ 8 * most) where
 pub padded-bytes : (most : ℕ) (bs : List ℕ) → AtMost 1 bs → AtMost 255 (padded most bs)
 unfolding padded wholeBytes
 padded-bytes most bs h =
+    let n = min 4 (8 * most - length bs) in
     at-most-append 255 (wholeBytes most bs) (pads (most - length (wholeBytes most bs)))
-    (bytes-small _ _ (at-most-append 1 (bs ++ replicate (min 4 (8 * most - length bs)) 0) (replicate 7 0) (at-most-append 1 bs (replicate (min 4 (8 * most - length bs)) 0) h (zeros-le (min 4 (8 * most - length bs)))) (zeros-le 7)))
+    (bytes-small _ _ (at-most-append 1 (bs ++ replicate n 0) (replicate 7 0) (at-most-append 1 bs (replicate n 0) h (zeros-le n)) (zeros-le 7)))
     (pads-le (most - length (wholeBytes most bs)))
   where
     zeros-le : (n : ℕ) → AtMost 1 (replicate n 0)

@@ -1,5 +1,4 @@
 -- What a list of pairs says from its i-th number on: a pair more, or no pair left. Each definition over the list is peeled by its front.
--- Assumes nothing.
 use mathlib.Core.Path.{_≡_, refl, sym, ap, _∙_}
 use mathlib.Core.Bool.{Bool, true, false, _&&_}
 use mathlib.Core.List.{List, [], _∷_, _++_}

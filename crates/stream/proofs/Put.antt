@@ -1,5 +1,5 @@
 -- A stream put piece by piece from its front: what is put so far, with the rest put after it, is the whole put at the start.
--- Each turn of a loop takes one piece off the front of the rest; at the end no rest is left. Assumes nothing.
+-- Each turn of a loop takes one piece off the front of the rest; at the end no rest is left.
 use mathlib.Core.Path.{_≡_, refl, sym, ap, _∙_}
 use mathlib.Core.List.{List, [], _++_}
 use Prim.Native.Nat.{ℕ, _+_, _*_, _≤_}
@@ -10,7 +10,7 @@ use Rattle.basics.specs.Bits.{bits}
 use Rattle.basics.specs.Lists.{AtMost}
 use Rattle.basics.proofs.Bits.{length-bits, bits-le}
 use Rattle.cursor.specs.Cursor.{withBits}
-use Rattle.stream.specs.Put.{Room, Put}
+use Rattle.stream.specs.Put.{RoomForBits, Put}
 use Rattle.cursor.proofs.Fields.{with-bits-length, with-bits-bytes, with-bits-none, with-bits-more}
 
 module _ (out₀ : List ℕ) (at₀ : ℕ) (all : List ℕ) where
@@ -55,13 +55,13 @@ module _ (out₀ : List ℕ) (at₀ : ℕ) (all : List ℕ) where
     going-field o a = going-more (bits n x) more g e (bits-le n x) l o (a ∙ ap (λ (k : ℕ). at + k) (sym (length-bits n x)))
 
   -- a piece has room
-  pub piece-room : {out : List ℕ} {at : ℕ} {rest : List ℕ} (xs more : List ℕ) → Going out at rest → rest ≡ xs ++ more → Room out₀ at₀ all → Room out at xs
+  pub piece-room : {out : List ℕ} {at : ℕ} {rest : List ℕ} (xs more : List ℕ) → Going out at rest → rest ≡ xs ++ more → RoomForBits out₀ at₀ all → RoomForBits out at xs
   piece-room {out} {at} xs more g e r =
       let long : at + (length xs + length more) ≡ at₀ + length all = rw (← length-append xs more, ← e) (g .place) in
       record { few = rw (g .same) (r .few); fit = rw (g .same) (omega (arith, r .fit)) }
 
   pub piece-put : {out : List ℕ} {at : ℕ} {rest : List ℕ} (xs more : List ℕ) {out′ : List ℕ} {at′ : ℕ} → Going out at rest → rest ≡ xs ++ more → AtMost 1 xs
-      → Room out₀ at₀ all → Put out at xs out′ at′ → Going out′ at′ more
+      → RoomForBits out₀ at₀ all → Put out at xs out′ at′ → Going out′ at′ more
   piece-put xs more g e h r p = going-more xs more g e h (r .fit) (p .put) (p .moved)
 
   -- no rest left: all is put
@@ -69,7 +69,7 @@ module _ (out₀ : List ℕ) (at₀ : ℕ) (all : List ℕ) where
   going-done g e = record { moved = going-end g e .0; put = going-end g e .1 }
 
   -- the rest has room, and once it is put all is
-  pub going-rest : {out : List ℕ} {at : ℕ} {rest : List ℕ} → Going out at rest → Room out₀ at₀ all → Room out at rest
+  pub going-rest : {out : List ℕ} {at : ℕ} {rest : List ℕ} → Going out at rest → RoomForBits out₀ at₀ all → RoomForBits out at rest
   going-rest g r = record { few = rw (g .same) (r .few); fit = rw (g .place, g .same) (r .fit) }
 
   pub going-put : {out : List ℕ} {at : ℕ} {rest out′ : List ℕ} {at′ : ℕ} → Going out at rest → Put out at rest out′ at′ → Put out₀ at₀ all out′ at′
@@ -77,7 +77,7 @@ module _ (out₀ : List ℕ) (at₀ : ℕ) (all : List ℕ) where
 
 -- bits that are one field
 module _ {out : List ℕ} {at : ℕ} {bs : List ℕ} (n x : ℕ) where
-  pub room-field : Room out at bs → bs ≡ bits n x → at + n ≤ 8 * length out
+  pub room-field : RoomForBits out at bs → bs ≡ bits n x → at + n ≤ 8 * length out
   room-field r e = rw (e, length-bits) at (r .fit)
 
   pub put-field : bs ≡ bits n x → {out′ : List ℕ} {at′ : ℕ} → at′ ≡ at + n → out′ ≡ withBits out at (bits n x) → Put out at bs out′ at′

@@ -1,5 +1,4 @@
 -- Widths of count fields and bodies: how wide at most, and that a body has the width that its count gives.
--- Assumes nothing.
 use mathlib.Core.Path.{_≡_, refl, ap, ap₂, _∙_}
 use mathlib.Core.Bool.{Bool, true, false, cond}
 use mathlib.Core.List.{List, [], _∷_, _++_}

@@ -9,7 +9,7 @@ use Rattle.cursor.specs.Cursor.{withBits}
 use Rattle.stream.specs.Stream.{body}
 
 -- bits fit in a buffer from a place on
-pub record Room (out : List ℕ) (at : ℕ) (bs : List ℕ) : Type 0 where
+pub record RoomForBits (out : List ℕ) (at : ℕ) (bs : List ℕ) : Type 0 where
   pub few : length out ≤ 4096
   pub fit : at + length bs ≤ 8 * length out
 

@@ -1,5 +1,4 @@
 -- A message as bits and data codewords. A message is a payload and a list of pairs: mode, count.
--- Assumes nothing.
 use mathlib.Core.Path.{_≡_}
 use mathlib.Core.Bool.{Bool, true, false, cond, _&&_, _||_}
 use mathlib.Core.List.{List, [], _∷_, _++_}
@@ -8,7 +7,7 @@ use lib.Dec.{leb, ltb, eqb}
 use lib.ListN.{length, getD, take, drop, replicate}
 use Rattle.basics.specs.Bits.{bits, byteBits, bytes}
 use Rattle.basics.specs.Lists.{each, placeIn, AtMost}
-use Rattle.tables.specs.Tables.{dataCount, countWidth}
+use Rattle.tables.specs.Tables.{lastVersion, dataCount, countWidth}
 
 -- ---- characters
 
@@ -91,9 +90,9 @@ lawfulCharacters [] payload = true
 lawfulCharacters (mode ∷ []) payload = true
 lawfulCharacters (mode ∷ count ∷ list) payload = each (inMode mode) (take count payload) && lawfulCharacters list (drop count payload)
 
--- it needs no more data bits than the version has at the level; the end mark need not fit
+-- it needs no more data bits than the version has at the level; the end mark need not fit, and nothing fits a version outside 1 to 10
 unfoldable pub fits : (v level : ℕ) → List ℕ → Bool
-fits v level list = leb (segmentsWidth v list) (8 * dataCount v level)
+fits v level list = leb 1 v && leb v lastVersion && leb (segmentsWidth v list) (8 * dataCount v level)
 
 -- ---- padding
 

@@ -9,7 +9,7 @@ ghost use lib.ListN.{length, getD, take, replicate};
 ghost use Rattle.basics.specs.Bits.{byteBits};
 ghost use Rattle.basics.specs.Lists.{each};
 ghost use Rattle.tables.specs.Tables.{Lawful, dataCount, countWidth};
-ghost use Rattle.stream.specs.Put.{Room, Put, segmentBits};
+ghost use Rattle.stream.specs.Put.{RoomForBits, Put, segmentBits};
 ghost use Rattle.stream.specs.Stream.{codeOf, known as isKnown, inMode, lawfulList, counts, lawfulCharacters, bodyWidth, fits as doesFit, numericBits, alphanumericBits, body, segments, pads, dataCodewords, LawfulMessage};
 
 fn wide(x: u16) -> usize
@@ -209,7 +209,7 @@ fn pair_of(base: u32, chars: &[u8], i: usize) -> u32
 
 // Two digits or none or one: what three at a time leave, two in 7 bits and one in 4.
 fn put_last_digits(cursor: Cursor, chars: &[u8], out: &mut [u8]) -> Cursor
-    requires { ⌜ (length (now chars) < 3) × Room (now out) (cursor .at) (numericBits (now chars)) ⌝ }
+    requires { ⌜ (length (now chars) < 3) × RoomForBits (now out) (cursor .at) (numericBits (now chars)) ⌝ }
     ensures { λ r. ⌜ Put (now (out .entry)) (cursor .at) (numericBits (now (chars .entry))) (now (out .exit)) (r .at) ⌝ }
 {
     if chars.len() == 2 {
@@ -223,7 +223,7 @@ fn put_last_digits(cursor: Cursor, chars: &[u8], out: &mut [u8]) -> Cursor
 
 // A numeric body: three digits in 10 bits each time.
 fn put_numeric(cursor: Cursor, chars: &[u8], out: &mut [u8]) -> Cursor
-    requires { ⌜ Room (now out) (cursor .at) (numericBits (now chars)) ⌝ }
+    requires { ⌜ RoomForBits (now out) (cursor .at) (numericBits (now chars)) ⌝ }
     ensures { λ r. ⌜ Put (now (out .entry)) (cursor .at) (numericBits (now (chars .entry))) (now (out .exit)) (r .at) ⌝ }
 {
     let mut c = cursor;
@@ -237,7 +237,7 @@ fn put_numeric(cursor: Cursor, chars: &[u8], out: &mut [u8]) -> Cursor
 
 // An alphanumeric body: a pair in 11 bits each time, one left in 6.
 fn put_alphanumeric(cursor: Cursor, chars: &[u8], out: &mut [u8]) -> Cursor
-    requires { ⌜ Room (now out) (cursor .at) (alphanumericBits (now chars)) ⌝ }
+    requires { ⌜ RoomForBits (now out) (cursor .at) (alphanumericBits (now chars)) ⌝ }
     ensures { λ r. ⌜ Put (now (out .entry)) (cursor .at) (alphanumericBits (now (chars .entry))) (now (out .exit)) (r .at) ⌝ }
 {
     let mut c = cursor;
@@ -254,7 +254,7 @@ fn put_alphanumeric(cursor: Cursor, chars: &[u8], out: &mut [u8]) -> Cursor
 
 // A byte body.
 fn put_bytes(cursor: Cursor, chars: &[u8], out: &mut [u8]) -> Cursor
-    requires { ⌜ Room (now out) (cursor .at) (byteBits (now chars)) ⌝ }
+    requires { ⌜ RoomForBits (now out) (cursor .at) (byteBits (now chars)) ⌝ }
     ensures { λ r. ⌜ Put (now (out .entry)) (cursor .at) (byteBits (now (chars .entry))) (now (out .exit)) (r .at) ⌝ }
 {
     let mut c = cursor;
@@ -268,7 +268,7 @@ fn put_bytes(cursor: Cursor, chars: &[u8], out: &mut [u8]) -> Cursor
 
 // A body in its mode.
 fn put_body(cursor: Cursor, mode: usize, chars: &[u8], out: &mut [u8]) -> Cursor
-    requires { ⌜ Room (now out) (cursor .at) (body mode (now chars)) ⌝ }
+    requires { ⌜ RoomForBits (now out) (cursor .at) (body mode (now chars)) ⌝ }
     ensures { λ r. ⌜ Put (now (out .entry)) (cursor .at) (body mode (now (chars .entry))) (now (out .exit)) (r .at) ⌝ }
 {
     if mode == 1 {
@@ -282,7 +282,7 @@ fn put_body(cursor: Cursor, mode: usize, chars: &[u8], out: &mut [u8]) -> Cursor
 
 // A segment: 4-bit mode, count, body.
 fn put_segment(cursor: Cursor, v: usize, mode: usize, chars: &[u8], out: &mut [u8]) -> Cursor
-    requires { ⌜ (mode < 65536) × ((length (now chars) < 65536) × Room (now out) (cursor .at) (segmentBits v mode (now chars))) ⌝ }
+    requires { ⌜ (mode < 65536) × ((length (now chars) < 65536) × RoomForBits (now out) (cursor .at) (segmentBits v mode (now chars))) ⌝ }
     ensures { λ r. ⌜ Put (now (out .entry)) (cursor .at) (segmentBits v mode (now (chars .entry))) (now (out .exit)) (r .at) ⌝ }
 {
     let start = cursor.put(out, narrow(mode), 4);
@@ -292,7 +292,7 @@ fn put_segment(cursor: Cursor, v: usize, mode: usize, chars: &[u8], out: &mut [u
 
 // All segments, from the first bit on.
 fn put_segments(payload: &[u8], list: &[u16], v: usize, out: &mut [u8]) -> Cursor
-    requires { ⌜ (counts (now list) ≡ length (now payload)) × Room (now out) 0 (segments v (now list) (now payload)) ⌝ }
+    requires { ⌜ (counts (now list) ≡ length (now payload)) × RoomForBits (now out) 0 (segments v (now list) (now payload)) ⌝ }
     ensures { λ r. ⌜ Put (now (out .entry)) 0 (segments v (now (list .entry)) (now (payload .entry))) (now (out .exit)) (r .at) ⌝ }
 {
     let mut c = Cursor { at: 0 };

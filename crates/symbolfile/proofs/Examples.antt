@@ -1,5 +1,4 @@
 -- Files computed: no file, no bytes, five bytes, wrong marks, wrong versions, lengths one off, sides 0, 1 and 2.
--- Assumes nothing.
 use mathlib.Core.Path.{_≡_, refl}
 use mathlib.Core.List.{[], _∷_, map}
 use Rattle.basics.specs.Lists.{same}

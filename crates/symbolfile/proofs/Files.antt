@@ -1,5 +1,4 @@
 -- A file that is no symbol file prints refusal 17, and any other what its modules print.
--- Assumes nothing.
 use mathlib.Core.Path.{_≡_, refl, ap, _∙_}
 use mathlib.Core.Bool.{true, false}
 use mathlib.Core.Logic.{by-cases}
@@ -12,7 +11,7 @@ use lib.Seq.{take-all}
 use Rattle.reader.specs.Reader.{Refused}
 use Rattle.text.specs.Paste.{Printed}
 use Rattle.text.specs.Text.{refusalText}
-use Rattle.symbolfile.specs.SymbolFile.{File, Holds, whole, SymbolPrinted, FilePrinted, printed}
+use Rattle.symbolfile.specs.SymbolFile.{File, Holds, whole, fileRefusal, SymbolPrinted, FilePrinted, printed}
 use Rattle.symbolfile.proofs.Header.{short}
 
 pub whole-long : (f : List ℕ) → whole f ≡ true → 6 ≤ length f
@@ -22,8 +21,8 @@ whole-long f e =
     different : true ≡ false → ⊥
     different z = let o : _≡_ {A = ℕ} 0 1 = cc in omega arith
 
-pub no-symbol : (f b : List ℕ) (n : ℕ) (a : List ℕ) → whole f ≡ false → Printed (refusalText 17) b n a → FilePrinted (Holds f) b n a
-no-symbol f b n a e p = record { output = refusalText 17; prints = record { answer = Refused 17; answers = rw e refl; prints = refl }; holds = p }
+pub no-symbol : (f b : List ℕ) (n : ℕ) (a : List ℕ) → whole f ≡ false → Printed (refusalText fileRefusal) b n a → FilePrinted (Holds f) b n a
+no-symbol f b n a e p = record { output = refusalText fileRefusal; prints = record { answer = Refused fileRefusal; answers = rw e refl; prints = refl }; holds = p }
 
 pub symbol : (f b : List ℕ) (n : ℕ) (a : List ℕ) → whole f ≡ true → SymbolPrinted (drop 6 f) b n a → FilePrinted (Holds f) b n a
 symbol f b n a e p =

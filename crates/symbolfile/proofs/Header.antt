@@ -1,14 +1,14 @@
 -- The mark and the version of a file are its first five bytes.
--- Assumes nothing.
-use mathlib.Core.Path.{_≡_, refl, _∙_}
+use mathlib.Core.Path.{_≡_, refl, sym, _∙_}
 use mathlib.Core.List.{List, [], _∷_}
-use mathlib.Core.Bool.{true, false, _&&_}
-use Prim.Native.Nat.{ℕ, _+_, _*_, _≤_, _<_}
+use mathlib.Core.Bool.{Bool, true, false, _&&_}
+use Prim.Native.Nat.{ℕ, zero, suc, _+_, _*_, _≤_, _<_}
 use native.Mathlib.Nat.{mul-le-mul}
 use native.Mathlib.Omega.{arith}
-use lib.Dec.{eqb}
+use lib.Dec.{eqb, leb}
 use lib.ListN.{length, getD, take}
-use borrow.Author.Tests.{le-leb, lt-leb}
+use lib.Seq.{getD-take}
+use borrow.Author.Tests.{le-leb, lt-leb, ne-eqb}
 use Rattle.basics.specs.Lists.{same}
 use Rattle.symbolfile.specs.SymbolFile.{whole, mark}
 
@@ -30,6 +30,24 @@ tests b h = rw (le-leb 6 (length b) h, first-five b (omega arith))
 pub short : (b : List ℕ) → length b < 6 → whole b ≡ false
 unfolding whole
 short b h = rw (lt-leb 6 (length b) h)
+
+last-no : (t : Bool) → t && false ≡ false
+last-no true = refl
+last-no false = refl
+
+-- lists that differ at a place are not the same
+differ : (xs ys : List ℕ) (i : ℕ) → (getD xs i 0 ≡ getD ys i 0 → ⊥) → same xs ys ≡ false
+unfolding same
+differ [] [] i n = absurd (n refl)
+differ [] (y ∷ ys) i n = refl
+differ (x ∷ xs) [] i n = refl
+differ (x ∷ xs) (y ∷ ys) zero n = rw (ne-eqb x y n)
+differ (x ∷ xs) (y ∷ ys) (suc i) n = rw (differ xs ys i n) (last-no (eqb x y))
+
+-- a wrong byte of the mark or the version makes a file no symbol file
+pub wrong : (b : List ℕ) (i : ℕ) → i < 5 → (getD b i 0 ≡ getD mark i 0 → ⊥) → whole b ≡ false
+unfolding whole
+wrong b i l n = rw (differ (take 5 b) mark i (λ e. n (sym (getD-take 5 b i 0 l) ∙ e))) (last-no (leb 6 (length b)))
 
 -- with the mark and the version right, the length decides
 pub decided : (b : List ℕ) → 6 ≤ length b → getD b 0 0 ≡ 75 → getD b 1 0 ≡ 81 → getD b 2 0 ≡ 83 → getD b 3 0 ≡ 0 → getD b 4 0 ≡ 1

@@ -1,5 +1,4 @@
 -- A file has one text, since a matrix has one answer.
--- Assumes nothing.
 use mathlib.Core.Path.{_≡_, refl, sym, ap, _∙_}
 use mathlib.Core.List.{List, _++_}
 use Prim.Native.Nat.{ℕ}
@@ -8,9 +7,9 @@ use Rattle.tables.specs.Tables.{mostPayload, mostList}
 use Rattle.reader.specs.Reader.{Answer, Refused}
 use Rattle.reader.proofs.Only.{reads-only}
 use Rattle.reader.proofs.Some.{reads-some}
-use Rattle.symbolfile.specs.SymbolFile.{File, Opened, Symbol, NoSymbol, opened, FileAnswer, printed, Prints, FilePrinted}
+use Rattle.symbolfile.specs.SymbolFile.{File, Opened, Symbol, NoSymbol, opened, fileRefusal, FileAnswer, printed, Prints, FilePrinted}
 
-answer-only : (o : Opened) (x y : Answer) → FileAnswer o x → FileAnswer o y → x ≡ y
+pub answer-only : (o : Opened) (x y : Answer) → FileAnswer o x → FileAnswer o y → x ≡ y
 answer-only NoSymbol x y p q = p ∙ sym q
 answer-only (Symbol m) x y p q = reads-only m mostPayload mostList x y p q
 
@@ -29,5 +28,5 @@ pub prints-some : (file : File) → (out : List ℕ) × Prints file out
 prints-some file = by (opened file) (λ o. o)
   where
     by : (o : Opened) → ((a : Answer) × FileAnswer o a → (a : Answer) × FileAnswer (opened file) a) → (out : List ℕ) × Prints file out
-    by NoSymbol f = let w = f (Refused 17, refl) in (printed (w .0), record { answer = w .0; answers = w .1; prints = refl })
+    by NoSymbol f = let w = f (Refused fileRefusal, refl) in (printed (w .0), record { answer = w .0; answers = w .1; prints = refl })
     by (Symbol m) f = let w = f (reads-some m mostPayload mostList) in (printed (w .0), record { answer = w .0; answers = w .1; prints = refl })

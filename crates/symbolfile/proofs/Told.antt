@@ -1,27 +1,21 @@
--- What is printed from the reader's buffers is the text of its answer: the payload is their front, and an odd number behind the pairs would
--- print nothing.
--- Assumes nothing.
+-- What is printed from the reader's buffers is the text of its answer: payload and list are their fronts, for a lawful list has no number
+-- left over, and it fills the payload.
 use mathlib.Core.Path.{_≡_, refl, sym, ap, subst, _∙_}
-use mathlib.Core.List.{List, [], _∷_, _++_}
-use Prim.Native.Nat.{ℕ, suc, _+_, _*_, _/_, _≤_}
+use mathlib.Core.List.{List, _++_}
+use Prim.Native.Nat.{ℕ, _*_, _/_, _≤_}
 use native.Mathlib.Omega.{arith}
 use lib.ListN.{length, take, drop, length-append, length-drop}
-use lib.Seq.{take-at, take-append-le}
+use lib.Seq.{take-at}
+use Rattle.part.specs.Part.{Fills}
+use Rattle.part.proofs.Laws.{lawful-fills}
+use Rattle.promises.proofs.Lawful.{reads-lawful}
 use Rattle.tables.specs.Tables.{mostPayload, mostList}
 use Rattle.reader.specs.declared.Reading.{Reading}
 use Rattle.reader.specs.declared.Answered.{Answered}
 use Rattle.reader.specs.declared.Answered.the-variants.{Read as Told, Refused as Denied}
 use Rattle.reader.specs.Reader.{Answer, Read, Refused, Reads, payloadAfter, listAfter}
-use Rattle.reader.specs.Answers.{Answers, answered}
-use Rattle.text.specs.Text.{segmentText, segmentLines, readingText}
-
-pub pairs-only : (k : ℕ) (p l : List ℕ) → segmentLines k p (take (2 * (length l / 2)) l) ≡ segmentLines k p l
-unfolding segmentLines
-pairs-only k p [] = refl
-pairs-only k p (m ∷ []) = refl
-pairs-only k p (m ∷ n ∷ l) =
-    let e : 2 * (suc (suc (length l)) / 2) ≡ suc (suc (2 * (length l / 2))) = omega arith in
-    rw e (ap (λ (r : List ℕ). segmentText k m n (take n p) ++ r) (pairs-only (k + 1) (drop n p) l))
+use Rattle.reader.specs.Answers.{Answers, answeredOf}
+use Rattle.text.specs.Text.{readingText}
 
 -- what is known where the reader has told a reading: it is an answer, the buffers hold it, and their fronts print as it does
 pub record Shown (m : List ℕ) (x : Reading) (payload list : List ℕ) : Type 0 where
@@ -30,6 +24,7 @@ pub record Shown (m : List ℕ) (x : Reading) (payload list : List ℕ) : Type 0
   pub reads : Reads m mostPayload mostList (Read (x .version) (x .level) (x .mask) bytes numbers (x .differing) (x .unreadable))
   pub payload-fits : x .payload ≤ mostPayload
   pub list-fits : 2 * x .segments ≤ mostList
+  pub fills : Fills (take (2 * x .segments) list) (length (take (x .payload) payload))
   pub same-text : readingText (x .version) (x .level) (x .mask) (take (x .payload) payload) (take (2 * x .segments) list) (x .differing) (x .unreadable)
       ≡ readingText (x .version) (x .level) (x .mask) bytes numbers (x .differing) (x .unreadable)
 
@@ -47,21 +42,24 @@ module _ (m p l p′ l′ : List ℕ) (lp : length p ≡ mostPayload) (ll : leng
       let fp : length bytes ≤ mostPayload = omega (arith, length-drop (length bytes) p) in
       let fl : length numbers ≤ mostList = omega (arith, length-drop (length numbers) l) in
       let tp : take (length bytes) p′ ≡ bytes = rw ep (take-at bytes (drop (length bytes) p) (length bytes) refl) in
-      let tl : take (2 * (length numbers / 2)) l′ ≡ take (2 * (length numbers / 2)) numbers =
-      rw el (take-append-le (2 * (length numbers / 2)) numbers (drop (length numbers) l) (omega arith)) in
+      let message = reads-lawful _ _ _ _ _ _ _ _ _ _ r .message in
+      let f = lawful-fills numbers (message .modes) in
+      let tl : take (2 * (length numbers / 2)) l′ ≡ numbers =
+      rw el (take-at numbers (drop (length numbers) l) (2 * (length numbers / 2)) (omega (arith, f .whole))) in
       record {
         bytes = bytes;
         numbers = numbers;
         reads = rw (lp, ll) at r;
         payload-fits = fp;
         list-fits = omega arith;
-        same-text = rw (tp, tl, pairs-only 1 bytes numbers);
+        fills = rw (tp, tl, ← message .sums) f;
+        same-text = rw (tp, tl);
       }
 
   pub told : (r : Answered) (x : Reading) → r ≡ Told x → Answers m p l r p′ l′ → Shown m x p′ l′
   told r x e a = by (a .answer) (a .reads) (sym (a .says) ∙ e) (a .payload-memory) (a .list-memory)
     where
-      by : (w : Answer) → Reads m (length p) (length l) w → answered w ≡ Told x → p′ ≡ payloadAfter w p → l′ ≡ listAfter w l → Shown m x p′ l′
+      by : (w : Answer) → Reads m (length p) (length l) w → answeredOf w ≡ Told x → p′ ≡ payloadAfter w p → l′ ≡ listAfter w l → Shown m x p′ l′
       by (Read v level mask bytes numbers t e) q s ep el =
           let same : record {
             version = v;
@@ -79,6 +77,6 @@ pub denied : (m p l p′ l′ : List ℕ) (r : Answered) (n : ℕ) → r ≡ Den
     → Reads m mostPayload mostList (Refused n)
 denied m p l p′ l′ r n e lp ll a = by (a .answer) (rw (lp, ll) at (a .reads)) (sym (a .says) ∙ e)
   where
-    by : (w : Answer) → Reads m mostPayload mostList w → answered w ≡ Denied n → Reads m mostPayload mostList (Refused n)
+    by : (w : Answer) → Reads m mostPayload mostList w → answeredOf w ≡ Denied n → Reads m mostPayload mostList (Refused n)
     by (Read v level mask bytes numbers t e) q s = let z : _≡_ {A = ℕ} 0 1 = cc in absurd (omega arith)
     by (Refused k) q s = let z : k ≡ n = cc in rw z at q

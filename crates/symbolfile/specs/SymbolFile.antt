@@ -1,5 +1,4 @@
 -- The symbol file, and what the program prints for it.
--- Assumes nothing.
 use mathlib.Core.Path.{_≡_}
 use mathlib.Core.Bool.{Bool, cond, _&&_}
 use mathlib.Core.List.{List, [], _∷_}
@@ -25,6 +24,10 @@ mark = 75 ∷ 81 ∷ 83 ∷ 0 ∷ 1 ∷ []
 unfoldable pub whole : List ℕ → Bool
 whole bytes = let s = getD bytes 5 0 in leb 6 (length bytes) && (same (take 5 bytes) mark && eqb (length bytes) (6 + s * s))
 
+-- the length of the longest such file
+abbrev pub mostFile : ℕ
+mostFile = 6 + 255 * 255
+
 -- what is in a file: the modules of a symbol, or no symbol
 pub data Opened : Type 0 where
   Symbol : (modules : List ℕ) → Opened
@@ -34,9 +37,13 @@ abbrev pub opened : File → Opened
 opened Closed = NoSymbol
 opened (Holds bytes) = cond (whole bytes) (Symbol (drop 6 bytes)) NoSymbol
 
--- "File refusal 17 ..; then the reader's own": with buffers of the lengths that the reader asks for
+-- "File refusal 17"
+abbrev pub fileRefusal : ℕ
+fileRefusal = 17
+
+-- the answer in each case: "File refusal 17 ..; then the reader's own", with buffers of the lengths that the reader asks for
 abbrev pub FileAnswer : Opened → Answer → Type 0
-FileAnswer NoSymbol a = a ≡ Refused 17
+FileAnswer NoSymbol a = a ≡ Refused fileRefusal
 FileAnswer (Symbol modules) a = Reads modules mostPayload mostList a
 
 -- the whole output for an answer

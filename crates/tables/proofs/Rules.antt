@@ -1,6 +1,5 @@
 -- The version table's rules. Each is one test that antt computes at the ten versions and four levels, and one law that reads it;
 -- what a block holds and where it starts follows from those by arithmetic, for every block.
--- Assumes nothing.
 use mathlib.Core.Path.{_≡_, refl, sym, ap, _∙_}
 use mathlib.Core.Bool.{Bool, true, false}
 use mathlib.Core.List.{List, [], _∷_}
@@ -14,7 +13,7 @@ use borrow.Author.Tests.{leb-true, leb-false}
 use Rattle.basics.specs.Sums.{one, sum}
 use Rattle.basics.proofs.Test.{all, grid, either, either-cases, isNot, is-not}
 use Rattle.tables.specs.Version.{Square}
-use Rattle.tables.specs.Theorems.{Rules, FixesOnly}
+use Rattle.tables.specs.Theorems.{Rules, LargestRules, FixesOnly}
 use Rattle.tables.specs.declared.Fixed.the-variants.{Version, NoVersion}
 use Rattle.tables.specs.Tables.{Lawful, side, totals, checkRows, blockRows, total, checkCount, blockCount, dataCount, shortLength, shortBlocks, blockData, blockStart, blockLength, room, lastVersion}
 
@@ -189,6 +188,19 @@ tables-rules v level l =
       codewords = total-most v (l .least) (l .most);
       checks = checks-most v level l;
       blocks = blocks-most v level l;
+    }
+
+-- each size of a buffer is that of some version and level
+pub largest-rules : LargestRules
+unfolding dataCount checkCount checkRows blockCount blockRows total totals
+largest-rules =
+    record {
+      sides = refl;
+      modules = refl;
+      codewords = refl;
+      held = (10, (0, (record { least = omega arith; most = omega arith; levels = omega arith }, refl)));
+      checks = (9, (0, (record { least = omega arith; most = omega arith; levels = omega arith }, refl)));
+      blocks = (10, (3, (record { least = omega arith; most = omega arith; levels = omega arith }, refl)));
     }
 
 -- ---- sides

@@ -1,3 +1,4 @@
+pub mod Largest
 pub mod Tables
 pub mod Theorems
 pub mod Version

@@ -1,5 +1,5 @@
 -- The version table, and what follows from it. A version is 1 to 10, a level 0 to 3 for L, M, Q, H.
--- Each table has an empty row in front, so that a row is found by its version. Assumes nothing.
+-- Each table has an empty row in front, so that a row is found by its version.
 use mathlib.Core.Bool.{cond, _&&_}
 use mathlib.Core.List.{List, [], _∷_}
 use Prim.Native.Nat.{ℕ, _+_, _-_, _*_, _/_, _%_, _≤_}
@@ -104,6 +104,9 @@ mostModules = 3249
 
 abbrev pub mostCodewords : ℕ
 mostCodewords = 346
+
+abbrev pub mostData : ℕ
+mostData = 274
 
 abbrev pub mostChecks : ℕ
 mostChecks = 30

@@ -1,9 +1,8 @@
 -- What is shown of the version table beside the contracts, each a statement with a name.
--- Assumes nothing.
 use mathlib.Core.Path.{_≡_}
 use Prim.Native.Nat.{ℕ, _+_, _-_, _*_, _<_, _≤_}
 use Rattle.basics.specs.Sums.{sum}
-use Rattle.tables.specs.Tables.{Lawful, total, checkCount, blockCount, dataCount, shortLength, shortBlocks, blockData, blockStart, blockLength, room, mostCodewords, mostChecks, mostBlocks}
+use Rattle.tables.specs.Tables.{Lawful, total, checkCount, blockCount, dataCount, shortLength, shortBlocks, blockData, blockStart, blockLength, room, side, lastVersion, mostSide, mostModules, mostCodewords, mostData, mostChecks, mostBlocks}
 use Rattle.tables.specs.Version.{Fixes}
 use Rattle.tables.specs.declared.Fixed.{Fixed}
 
@@ -25,6 +24,19 @@ pub record TableRules (v level : ℕ) : Type 0 where
   pub codewords : total v ≤ mostCodewords
   pub checks : checkCount v level ≤ mostChecks
   pub blocks : blockCount v level ≤ mostBlocks
+
+-- a version and a level that has the number
+abbrev pub Reached : (ofSize : (v level : ℕ) → ℕ) (n : ℕ) → Type 0
+Reached ofSize n = (v : ℕ) × ((level : ℕ) × (Lawful v level × (ofSize v level ≡ n)))
+
+-- the buffers are no larger than some version and level needs
+pub record LargestRules : Type 0 where
+  pub sides : mostSide ≡ side lastVersion
+  pub modules : mostModules ≡ mostSide * mostSide
+  pub codewords : mostCodewords ≡ total lastVersion
+  pub held : Reached dataCount mostData
+  pub checks : Reached checkCount mostChecks
+  pub blocks : Reached blockCount mostBlocks
 
 abbrev pub Rules : Type 0
 Rules = (v level : ℕ) → Lawful v level → TableRules v level

@@ -3,6 +3,7 @@ ghost use mathlib.Core.Path.{_≡_};
 ghost use Prim.Native.Nat.{_≤_, _<_};
 ghost use lib.ListN.{length, getD};
 ghost use Rattle.tables.specs.Tables.{Lawful, lastVersion, side as sideOf, total as totalOf, checkCount, blockCount, dataCount, shortLength, shortBlocks, blockData, blockStart, blockLength, room as roomOf, countWidth, centres, surplus as surplusOf};
+ghost use Rattle.tables.specs.Largest.{largestOf};
 ghost use Rattle.tables.specs.Version.{Fixes};
 
 // The last version, and the most that any version and level has of each: sizes of buffers.
@@ -16,13 +17,35 @@ pub const MOST_CODEWORDS: usize = 346;
 
 pub const MOST_DATA: usize = 274;
 
-pub const MOST_CHECKS: usize = 30;
-
-pub const MOST_BLOCKS: usize = 8;
-
 pub const MOST_PAYLOAD: usize = 652;
 
 pub const MOST_LIST: usize = 308;
+
+// What these constants are.
+pub struct Largest {
+    pub version: usize,
+    pub side: usize,
+    pub modules: usize,
+    pub codewords: usize,
+    pub held: usize,
+    pub payload: usize,
+    pub list: usize,
+}
+
+// Each constant is the definition's number.
+pub fn most() -> Largest
+    ensures { λ r. ⌜ r ≡ largestOf ⌝ }
+{
+    Largest {
+        version: LAST_VERSION,
+        side: MOST_SIDE,
+        modules: MOST_MODULES,
+        codewords: MOST_CODEWORDS,
+        held: MOST_DATA,
+        payload: MOST_PAYLOAD,
+        list: MOST_LIST,
+    }
+}
 
 // Total codewords, versions 1 to 10.
 const TOTALS: [u16; 10] = [26, 44, 70, 100, 134, 172, 196, 242, 292, 346];
@@ -243,13 +266,13 @@ pub enum Fixed {
 }
 
 // The version whose matrix has this length, or that there is none.
-pub fn version_of(length: usize) -> Fixed
-    ensures { λ r. ⌜ Fixes length r ⌝ }
+pub fn version_of(len: usize) -> Fixed
+    ensures { λ r. ⌜ Fixes len r ⌝ }
 {
     let mut v: usize = 1;
     while v <= LAST_VERSION {
         let s = side(v);
-        if s * s == length {
+        if s * s == len {
             return Fixed::Version(v);
         }
         v += 1;

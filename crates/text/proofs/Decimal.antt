@@ -1,5 +1,4 @@
 -- A number in decimal: its last digit, the number without it, at most n digits; and read back it is the number.
--- Assumes nothing.
 use mathlib.Core.Path.{_≡_, refl}
 use mathlib.Core.Logic.{_≢_, by-cases}
 use mathlib.Core.List.{List, [], _∷_, _++_}

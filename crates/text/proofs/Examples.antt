@@ -1,17 +1,16 @@
 -- Texts computed: case a drawn with mask 2 as document 01 prints it; several segments, an empty one, bytes from A0 on, counts of two digits;
 -- each level's letter; an empty list; refusals.
--- Assumes nothing.
 use mathlib.Core.Path.{_≡_, refl}
 use mathlib.Core.List.{List, [], _∷_, _++_}
 use Prim.Native.Nat.{ℕ}
 use Prim.Native.String.{String}
 use Rattle.basics.specs.Lists.{joined}
-use Rattle.text.specs.Text.{text, line, decimal, hex, hexDigit, letter, firstLine, secondLine, segmentLine, segmentText, segmentLines, readingText, refusalText}
+use Rattle.text.specs.Text.{text, ended, decimal, hex, hexDigit, letter, firstLine, secondLine, segmentLine, segmentText, segmentLines, readingText, refusalText}
 
 -- lines as they stand in document 01
 unfoldable pub lines : List String → List ℕ
 lines [] = []
-lines (s ∷ rest) = line (text s ∷ []) ++ lines rest
+lines (s ∷ rest) = ended (text s ∷ []) ++ lines rest
 
 pub case-a : readingText 1 1 2 (48 ∷ 49 ∷ 50 ∷ 51 ∷ 52 ∷ 53 ∷ 54 ∷ 55 ∷ []) (1 ∷ 8 ∷ []) 0 0
     ≡ lines ("version 1 level M mask 2" ∷ "differing 0 unreadable 0" ∷ "segment 1 mode 1 count 8" ∷ "3031323334353637" ∷ "end" ∷ [])

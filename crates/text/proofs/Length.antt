@@ -1,12 +1,12 @@
--- The most bytes of each text: 652 payload bytes in 154 segments take fewer than `mostText`.
--- Assumes nothing.
+-- The most bytes of each text: the longest payload in the longest list takes fewer than `mostText`.
 use mathlib.Core.Path.{_≡_, refl, ap}
 use mathlib.Core.List.{List, [], _∷_}
 use Prim.Native.Nat.{ℕ, _+_, _*_, _≤_}
 use native.Mathlib.Omega.{arith}
 use lib.ListN.{length, take, drop, length-append, take-append-drop}
 use Rattle.basics.specs.Lists.{joined}
-use Rattle.text.specs.Paste.{Room}
+use Rattle.tables.specs.Tables.{mostPayload, mostList}
+use Rattle.text.specs.Paste.{RoomForBytes}
 use Rattle.text.specs.Text.{text, hex, firstLine, secondLine, segmentLine, segmentText, segmentLines, readingText, refusalText, mostText}
 use Rattle.text.proofs.Decimal.{most}
 
@@ -49,14 +49,14 @@ segments-most k payload (mode ∷ count ∷ list) =
 -- a buffer of `mostText` bytes has room for every text
 
 pub reading-room : (out : List ℕ) (version level mask : ℕ) (payload list : List ℕ) (differing unreadable : ℕ)
-    → length payload ≤ 652 → length list ≤ 308 → mostText ≤ length out
-    → Room out 0 (readingText version level mask payload list differing unreadable)
+    → length payload ≤ mostPayload → length list ≤ mostList → mostText ≤ length out
+    → RoomForBytes out 0 (readingText version level mask payload list differing unreadable)
 unfolding readingText joined text
 reading-room out version level mask payload list differing unreadable hp hl ho =
     record {
       fits = simp length-append (omega (arith, first-most version level mask, second-most differing unreadable, segments-most 1 payload list));
     }
 
-pub refusal-room : (out : List ℕ) (n : ℕ) → mostText ≤ length out → Room out 0 (refusalText n)
+pub refusal-room : (out : List ℕ) (n : ℕ) → mostText ≤ length out → RoomForBytes out 0 (refusalText n)
 unfolding refusalText joined text
 refusal-room out n h = record { fits = simp length-append (omega (arith, most 20 n)) }

@@ -3,7 +3,6 @@
 --     room-first, room-next   where there is room for both there is room for the first, and then for the second
 --     Progress          a loop on its way through a text: what is written, and what is left
 --     printed           from place 0 on: the text, and behind it the buffer as it was
--- Assumes nothing.
 use mathlib.Core.Path.{_≡_, refl, sym, ap, subst, _∙_}
 use mathlib.Core.List.{List, [], _∷_, _++_, append-assoc, append-nil}
 use Prim.Native.Nat.{ℕ, suc, _+_, _≤_}
@@ -12,7 +11,7 @@ use native.Mathlib.Omega.{arith}
 use lib.ListN.{length, drop, set, length-append, length-set}
 use lib.Seq.{sets, sets-eq}
 use Rattle.basics.specs.Lists.{joined}
-use Rattle.text.specs.Paste.{pasted, Room, Pasted, Printed}
+use Rattle.text.specs.Paste.{pasted, RoomForBytes, Pasted, Printed}
 
 pub pasted-length : (at : ℕ) (s out : List ℕ) → length (pasted at s out) ≡ length out
 unfolding pasted
@@ -54,10 +53,10 @@ then {out} {o₁} {o₂} {s} {t} {at} {n} p q =
 
 -- ---- room
 
-pub room-first : {out : List ℕ} {at : ℕ} (s t : List ℕ) → Room out at (s ++ t) → Room out at s
+pub room-first : {out : List ℕ} {at : ℕ} (s t : List ℕ) → RoomForBytes out at (s ++ t) → RoomForBytes out at s
 room-first s t h = record { fits = omega (arith, h .fits, length-append s t) }
 
-pub room-next : {out o₁ s : List ℕ} {at n : ℕ} (t : List ℕ) → Room out at (s ++ t) → Pasted out at s n o₁ → Room o₁ n t
+pub room-next : {out o₁ s : List ℕ} {at n : ℕ} (t : List ℕ) → RoomForBytes out at (s ++ t) → Pasted out at s n o₁ → RoomForBytes o₁ n t
 room-next {out} {o₁} {s} {at} {n} t h p = record { fits = omega (arith, h .fits, length-append s t, kept p, p .behind) }
 
 -- ---- a loop that pastes a text piece by piece
@@ -76,7 +75,7 @@ pub said : {out whole after r r′ : List ℕ} {at n : ℕ} → r ≡ r′ → P
 said e p = record { front = p .front; written = p .written; left = rw (← e) (p .left) }
 
 pub room : {out whole after : List ℕ} {at n : ℕ} (piece rest : List ℕ)
-    → Room out at whole → Progress out at whole after n (piece ++ rest) → Room after n piece
+    → RoomForBytes out at whole → Progress out at whole after n (piece ++ rest) → RoomForBytes after n piece
 room {out} {whole} {after} {at} {n} piece rest h p =
     let l = ap length (p .left) in
     record {
@@ -98,11 +97,15 @@ done {out} {whole} {after} {at} {n} p =
 pub record Writing (out : List ℕ) (at : ℕ) (whole after : List ℕ) (next : ℕ) (pieces : List (List ℕ)) : Type 0 where
   pub progress : Progress out at whole after next (joined pieces)
 
+-- the first k pieces are pasted
+abbrev pub Written : (out : List ℕ) (at : ℕ) (pieces : List (List ℕ)) (k : ℕ) (after : List ℕ) (next : ℕ) → Type 0
+Written out at pieces k after next = Writing out at (joined pieces) after next (drop k pieces)
+
 pub begin : (out : List ℕ) (at : ℕ) (pieces : List (List ℕ)) → Writing out at (joined pieces) out at pieces
 begin out at pieces = record { progress = start out at (joined pieces) }
 
 pub room-piece : {out whole after piece : List ℕ} {pieces : List (List ℕ)} {at n : ℕ}
-    → Room out at whole → Writing out at whole after n (piece ∷ pieces) → Room after n piece
+    → RoomForBytes out at whole → Writing out at whole after n (piece ∷ pieces) → RoomForBytes after n piece
 unfolding joined
 room-piece {piece = piece} {pieces = pieces} h p = room piece (joined pieces) h (p .progress)
 
@@ -117,6 +120,6 @@ end p = done (p .progress)
 
 -- ---- the front
 
-pub printed : {out after s : List ℕ} {n : ℕ} → Room out 0 s → Pasted out 0 s n after → Printed s out n after
+pub printed : {out after s : List ℕ} {n : ℕ} → RoomForBytes out 0 s → Pasted out 0 s n after → Printed s out n after
 printed {out} {after} {s} h p =
     record { counts = omega (arith, p .behind); holds = p .holds ∙ pasted-front s out (omega (arith, h .fits)) }

@@ -1,5 +1,4 @@
 -- Text that is written into a buffer from a place on.
--- Assumes nothing.
 use mathlib.Core.Path.{_≡_}
 use mathlib.Core.List.{List, [], _∷_, _++_}
 use Prim.Native.Nat.{ℕ, suc, _+_, _≤_}
@@ -11,7 +10,7 @@ pasted at [] out = out
 pasted at (b ∷ bytes) out = pasted (suc at) bytes (set out at b)
 
 -- the buffer has room for the bytes from a place on
-pub record Room (out : List ℕ) (at : ℕ) (bytes : List ℕ) : Type 0 where
+pub record RoomForBytes (out : List ℕ) (at : ℕ) (bytes : List ℕ) : Type 0 where
   pub fits : at + length bytes ≤ length out
 
 -- the bytes are in the buffer from a place on, nothing else has changed, and the next free place is right behind them

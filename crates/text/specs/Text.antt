@@ -1,5 +1,4 @@
 -- What the program prints for an answer.
--- Assumes nothing.
 use mathlib.Core.Bool.{cond}
 use mathlib.Core.List.{List, [], _∷_, _++_}
 use Prim.Native.Nat.{ℕ, zero, suc, _+_, _/_, _%_}
@@ -40,27 +39,27 @@ letter level = getD (76 ∷ 77 ∷ 81 ∷ 72 ∷ []) level 0
 abbrev pub field : String → ℕ → List ℕ
 field name x = text name ++ shown x
 
--- a line: words with nothing between them, and a line feed
-abbrev pub line : List (List ℕ) → List ℕ
-line words = joined (words ++ ((10 ∷ []) ∷ []))
+-- pieces with nothing between them, and a line feed behind the last
+abbrev pub ended : List (List ℕ) → List ℕ
+ended pieces = joined (pieces ++ ((10 ∷ []) ∷ []))
 
 -- ---- the lines of a reading
 
 -- "version 1 level M mask 2"
 unfoldable pub firstLine : (version level mask : ℕ) → List ℕ
-firstLine version level mask = line (field "version " version ∷ text " level " ∷ (letter level ∷ []) ∷ field " mask " mask ∷ [])
+firstLine version level mask = ended (field "version " version ∷ text " level " ∷ (letter level ∷ []) ∷ field " mask " mask ∷ [])
 
 -- "differing 0 unreadable 0"
 unfoldable pub secondLine : (differing unreadable : ℕ) → List ℕ
-secondLine differing unreadable = line (field "differing " differing ∷ field " unreadable " unreadable ∷ [])
+secondLine differing unreadable = ended (field "differing " differing ∷ field " unreadable " unreadable ∷ [])
 
 -- "segment 1 mode 1 count 8"
 unfoldable pub segmentLine : (k mode count : ℕ) → List ℕ
-segmentLine k mode count = line (field "segment " k ∷ field " mode " mode ∷ field " count " count ∷ [])
+segmentLine k mode count = ended (field "segment " k ∷ field " mode " mode ∷ field " count " count ∷ [])
 
 -- a segment: its line, and below it its bytes in hex
 unfoldable pub segmentText : (k mode count : ℕ) (bytes : List ℕ) → List ℕ
-segmentText k mode count bytes = line (segmentLine k mode count ∷ hex bytes ∷ [])
+segmentText k mode count bytes = ended (segmentLine k mode count ∷ hex bytes ∷ [])
 
 -- the segments from segment k on, with the bytes that are left: "Segments number from 1 here; hex is lower case; an empty segment has an
 -- empty hex line"
@@ -75,12 +74,12 @@ segmentLines k payload (mode ∷ count ∷ list) =
 -- "The whole output": the two lines, two lines a segment, "end"
 unfoldable pub readingText : (version level mask : ℕ) (payload list : List ℕ) (differing unreadable : ℕ) → List ℕ
 readingText version level mask payload list differing unreadable =
-    line (firstLine version level mask ∷ secondLine differing unreadable ∷ segmentLines 1 payload list ∷ text "end" ∷ [])
+    ended (firstLine version level mask ∷ secondLine differing unreadable ∷ segmentLines 1 payload list ∷ text "end" ∷ [])
 
 -- "A refusal prints one line, `refused N`"
 unfoldable pub refusalText : ℕ → List ℕ
-refusalText n = line (field "refused " n ∷ [])
+refusalText n = ended (field "refused " n ∷ [])
 
--- a buffer of so many bytes has room for every text of 652 payload bytes and 154 segments
+-- a buffer of so many bytes has room for every text of `mostPayload` bytes and `mostList` numbers
 abbrev pub mostText : ℕ
 mostText = 16384

@@ -1,9 +1,11 @@
 // The text that is printed, in a lent buffer. Each function writes its text from a place on and answers the next free place.
 ghost use mathlib.Core.Path.{_≡_};
 ghost use mathlib.Core.List.{[], _∷_, _++_};
-ghost use Prim.Native.Nat.{min, _≤_, _<_};
+ghost use Prim.Native.Nat.{_≤_, _<_};
 ghost use lib.ListN.{length};
-ghost use Rattle.text.specs.Paste.{Room, Pasted, Printed};
+ghost use Rattle.tables.specs.Tables.{mostPayload, mostList};
+ghost use Rattle.part.specs.Part.{Fills};
+ghost use Rattle.text.specs.Paste.{RoomForBytes, Pasted, Printed};
 ghost use Rattle.text.specs.Text.{decimal, shown, hexDigit, hex, letter, firstLine, secondLine, segmentLine, segmentText, segmentLines, readingText, refusalText, mostText};
 
 // The most digits of a number of 64 bits.
@@ -12,7 +14,7 @@ const MOST_DIGITS: usize = 20;
 const LINE_FEED: u8 = 10;
 
 fn put_byte(out: &mut [u8], at: usize, b: u8) -> usize
-    requires { ⌜ Room (now out) at (b ∷ []) ⌝ }
+    requires { ⌜ RoomForBytes (now out) at (b ∷ []) ⌝ }
     ensures { λ r. ⌜ Pasted (now (out .entry)) at (b ∷ []) r (now (out .exit)) ⌝ }
 {
     out[at] = b;
@@ -20,7 +22,7 @@ fn put_byte(out: &mut [u8], at: usize, b: u8) -> usize
 }
 
 fn put_bytes(out: &mut [u8], at: usize, s: &[u8]) -> usize
-    requires { ⌜ Room (now out) at (now s) ⌝ }
+    requires { ⌜ RoomForBytes (now out) at (now s) ⌝ }
     ensures { λ r. ⌜ Pasted (now (out .entry)) at (now (s .entry)) r (now (out .exit)) ⌝ }
 {
     let mut next = at;
@@ -34,7 +36,7 @@ fn put_bytes(out: &mut [u8], at: usize, s: &[u8]) -> usize
 
 // A number in decimal, n digits at the most.
 fn put_digits(out: &mut [u8], at: usize, n: usize, x: usize) -> usize
-    requires { ⌜ Room (now out) at (decimal n x) ⌝ }
+    requires { ⌜ RoomForBytes (now out) at (decimal n x) ⌝ }
     ensures { λ r. ⌜ Pasted (now (out .entry)) at (decimal n x) r (now (out .exit)) ⌝ }
 {
     if n == 0 {
@@ -50,7 +52,7 @@ fn put_digits(out: &mut [u8], at: usize, n: usize, x: usize) -> usize
 
 // A name and a number.
 fn put_field(out: &mut [u8], at: usize, name: &[u8], x: usize) -> usize
-    requires { ⌜ Room (now out) at (now name ++ shown x) ⌝ }
+    requires { ⌜ RoomForBytes (now out) at (now name ++ shown x) ⌝ }
     ensures { λ r. ⌜ Pasted (now (out .entry)) at (now (name .entry) ++ shown x) r (now (out .exit)) ⌝ }
 {
     let next = put_bytes(out, at, name);
@@ -70,7 +72,7 @@ fn hex_digit(x: u8) -> u8
 
 // The bytes in hex.
 fn put_hex(out: &mut [u8], at: usize, bytes: &[u8]) -> usize
-    requires { ⌜ Room (now out) at (hex (now bytes)) ⌝ }
+    requires { ⌜ RoomForBytes (now out) at (hex (now bytes)) ⌝ }
     ensures { λ r. ⌜ Pasted (now (out .entry)) at (hex (now (bytes .entry))) r (now (out .exit)) ⌝ }
 {
     let mut next = at;
@@ -98,7 +100,7 @@ fn letter_of(level: usize) -> u8
 }
 
 fn put_first_line(out: &mut [u8], at: usize, version: usize, level: usize, mask: usize) -> usize
-    requires { ⌜ (level < 4) × Room (now out) at (firstLine version level mask) ⌝ }
+    requires { ⌜ (level < 4) × RoomForBytes (now out) at (firstLine version level mask) ⌝ }
     ensures { λ r. ⌜ Pasted (now (out .entry)) at (firstLine version level mask) r (now (out .exit)) ⌝ }
 {
     let versioned = put_field(out, at, b"version ", version);
@@ -109,7 +111,7 @@ fn put_first_line(out: &mut [u8], at: usize, version: usize, level: usize, mask:
 }
 
 fn put_second_line(out: &mut [u8], at: usize, differing: usize, unreadable: usize) -> usize
-    requires { ⌜ Room (now out) at (secondLine differing unreadable) ⌝ }
+    requires { ⌜ RoomForBytes (now out) at (secondLine differing unreadable) ⌝ }
     ensures { λ r. ⌜ Pasted (now (out .entry)) at (secondLine differing unreadable) r (now (out .exit)) ⌝ }
 {
     let first = put_field(out, at, b"differing ", differing);
@@ -118,7 +120,7 @@ fn put_second_line(out: &mut [u8], at: usize, differing: usize, unreadable: usiz
 }
 
 fn put_segment_line(out: &mut [u8], at: usize, k: usize, mode: usize, count: usize) -> usize
-    requires { ⌜ Room (now out) at (segmentLine k mode count) ⌝ }
+    requires { ⌜ RoomForBytes (now out) at (segmentLine k mode count) ⌝ }
     ensures { λ r. ⌜ Pasted (now (out .entry)) at (segmentLine k mode count) r (now (out .exit)) ⌝ }
 {
     let numbered = put_field(out, at, b"segment ", k);
@@ -136,7 +138,7 @@ fn put_segment(
     count: usize,
     bytes: &[u8],
 ) -> usize
-    requires { ⌜ Room (now out) at (segmentText k mode count (now bytes)) ⌝ }
+    requires { ⌜ RoomForBytes (now out) at (segmentText k mode count (now bytes)) ⌝ }
     ensures { λ r. ⌜ Pasted (now (out .entry)) at (segmentText k mode count (now (bytes .entry))) r (now (out .exit)) ⌝ }
 {
     let lined = put_segment_line(out, at, k, mode, count);
@@ -150,29 +152,17 @@ fn wide(x: u16) -> usize
     x as usize
 }
 
-fn least(a: usize, b: usize) -> usize
-    ensures { λ r. ⌜ r ≡ min a b ⌝ }
-{
-    if a <= b {
-        return a;
-    }
-    b
-}
-
-// The lines of all segments. A count past the payload's end has the bytes that are left.
+// The lines of all segments: of each its line and its part of the payload.
 fn put_segments(out: &mut [u8], at: usize, payload: &[u8], list: &[u16]) -> usize
-    requires { ⌜ Room (now out) at (segmentLines 1 (now payload) (now list)) ⌝ }
+    requires { ⌜ Fills (now list) (length (now payload)) × RoomForBytes (now out) at (segmentLines 1 (now payload) (now list)) ⌝ }
     ensures { λ r. ⌜ Pasted (now (out .entry)) at (segmentLines 1 (now (payload .entry)) (now (list .entry))) r (now (out .exit)) ⌝ }
 {
     let mut next = at;
-    let mut a: usize = 0;
     let mut k: usize = 0;
     while k < list.len() / 2 {
         let mode = wide(list[2 * k]);
         let count = wide(list[2 * k + 1]);
-        let e = a + least(count, payload.len() - a);
-        next = put_segment(out, next, k + 1, mode, count, &payload[a..e]);
-        a = e;
+        next = put_segment(out, next, k + 1, mode, count, part::part(payload, list, k));
         k += 1;
     }
     next
@@ -189,7 +179,7 @@ pub fn print_reading(
     differing: usize,
     unreadable: usize,
 ) -> usize
-    requires { ⌜ (level < 4) × ((length (now payload) ≤ 652) × ((length (now list) ≤ 308) × (mostText ≤ length (now out)))) ⌝ }
+    requires { ⌜ (level < 4) × (Fills (now list) (length (now payload)) × ((length (now payload) ≤ mostPayload) × ((length (now list) ≤ mostList) × (mostText ≤ length (now out))))) ⌝ }
     ensures { λ r. ⌜ Printed (readingText version level mask (now (payload .entry)) (now (list .entry)) differing unreadable) (now (out .entry)) r (now (out .exit)) ⌝ }
 {
     let first = put_first_line(out, 0, version, level, mask);

@@ -1,4 +1,4 @@
--- Laws of a field of characteristic 2, and of finite sums in it. Assumes nothing.
+-- Laws of a field of characteristic 2, and of finite sums in it.
 use mathlib.Core.Path.{_≡_, refl, sym, ap, ap₂, _∙_}
 use mathlib.Core.Logic.{_≢_, _⊎_, inl, inr, by-cases}
 use Prim.Native.Nat.{ℕ, zero, suc, _+_, _≤_, _<_}

@@ -1,4 +1,4 @@
--- The decoder is complete: where a codeword is near enough, the places that it suspects are few and hold every place that differs. Assumes nothing.
+-- The decoder is complete: where a codeword is near enough, the places that it suspects are few and hold every place that differs.
 use mathlib.Core.Path.{_≡_, sym, ap, _∙_}
 use mathlib.Core.Logic.{_≢_, _⊎_, inl, inr, ⊎-elim}
 use mathlib.Core.List.{List, _∷_, _++_, List·Memᴰ, List·Memᴰ·head, List·Memᴰ·tail, List·Memᴰ·cases-cons, List·Memᴰ·append-cases, Memᴰ·append-left, Memᴰ·append-right}

@@ -1,4 +1,4 @@
--- A word whose first power sums vanish, as many as it has places that may differ from 0, vanishes. Assumes nothing.
+-- A word whose first power sums vanish, as many as it has places that may differ from 0, vanishes.
 use mathlib.Core.Path.{_≡_, sym, _∙_}
 use mathlib.Core.Logic.{_≢_, inl, inr, ⊎-elim, by-cases}
 use mathlib.Core.List.{List, [], _∷_, _++_, List·Memᴰ, List·Memᴰ·not-nil, List·Memᴰ·cases-cons, List·Memᴰ·append-cases, Memᴰ·append-left, Memᴰ·append-right}

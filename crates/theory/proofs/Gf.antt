@@ -1,4 +1,4 @@
--- The bytes of `field` as a field of the theory, and the locators of a block's places, which differ. Assumes nothing.
+-- The bytes of `field` as a field of the theory, and the locators of a block's places, which differ.
 use mathlib.Core.Path.{_≡_, sym, ap, _∙_}
 use Prim.Native.Nat.{ℕ, suc, _-_, _≤_}
 use native.Mathlib.Omega.{arith}

@@ -1,4 +1,4 @@
--- The error locator, and what a recurrence says of the locators of a word. Assumes nothing.
+-- The error locator, and what a recurrence says of the locators of a word.
 use mathlib.Core.Path.{_≡_, refl, sym, ap, _∙_, fun-ext}
 use mathlib.Core.Logic.{_⊎_, inl, inr, ⊎-elim}
 use mathlib.Core.List.{List, [], _∷_, List·Memᴰ·not-nil}

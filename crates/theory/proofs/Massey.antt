@@ -1,4 +1,4 @@
--- One step of a Berlekamp-Massey run keeps `Run`, and the degree stays the least possible. Assumes nothing.
+-- One step of a Berlekamp-Massey run keeps `Run`, and the degree stays the least possible.
 use mathlib.Core.Path.{_≡_, refl, sym, ap, ap₂, _∙_}
 use mathlib.Core.Logic.{_≢_, ⊎-elim, by-cases}
 use Prim.Native.Nat.{ℕ, zero, suc, _+_, _-_, _≤_, _<_}

@@ -1,4 +1,4 @@
--- A monic polynomial of degree L has at most L roots. Assumes nothing.
+-- A monic polynomial of degree L has at most L roots.
 use mathlib.Core.Path.{_≡_, sym, ap, ap₂, _∙_, fun-ext}
 use mathlib.Core.Logic.{⊎-elim}
 use mathlib.Core.List.{List, [], _∷_, List·Memᴰ, List·Memᴰ·head, List·Memᴰ·tail}

@@ -1,5 +1,5 @@
 -- The values of a word whose places are known: a polynomial that has their locators for roots, its quotients, and the sums that it makes of the word's.
--- A polynomial is evaluated from its highest coefficient down, and with it its quotient at the same point. Assumes nothing.
+-- A polynomial is evaluated from its highest coefficient down, and with it its quotient at the same point.
 use mathlib.Core.Path.{_≡_, refl, sym, ap, _∙_}
 use mathlib.Core.Logic.{_≢_, _⊎_, ⊎-elim, by-cases}
 use mathlib.Core.List.{List, [], _∷_}

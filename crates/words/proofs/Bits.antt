@@ -1,5 +1,4 @@
 -- The five bits of a format word and the level and mask that they name: each way back is exact, by a test of all.
--- Assumes nothing.
 use mathlib.Core.Path.{_≡_, sym, ap, _∙_}
 use Prim.Native.Nat.{ℕ, _+_, _*_, _^_, _<_}
 use native.Mathlib.Nat.{mod-lt}

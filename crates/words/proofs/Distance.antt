@@ -1,6 +1,5 @@
 -- Words of k bits at a distance of 7 or more: a copy stands for at most one of them.
 -- Where two words differ, one of them differs from the copy, or the bit could not be read; so two words near one copy differ in at most 6 bits.
--- Assumes nothing.
 use mathlib.Core.Path.{_≡_, ap, _∙_}
 use mathlib.Core.Logic.{⊎-elim}
 use mathlib.Core.Bool.{Bool}

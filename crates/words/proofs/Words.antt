@@ -1,5 +1,4 @@
 -- At most one format word stands for a copy, and at most one version word: any two differ in 7 bits or more, which antt tests at each pair.
--- Assumes nothing.
 use mathlib.Core.Path.{refl, ap}
 use native.Mathlib.Omega.{arith}
 use lib.Count.{onesIn}

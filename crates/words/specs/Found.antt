@@ -1,5 +1,4 @@
 -- Which word a copy stands for. Of the bits of the copy those set in `readable` could be read.
--- Assumes nothing.
 use Prim.Native.Nat.{ℕ, _≤_, _<_}
 use Rattle.words.specs.Words.{formatWord, versionWord, Near}
 use Rattle.words.specs.declared.Found.{Found}

@@ -1,5 +1,4 @@
 -- What is shown of the words beside the contracts, each a statement with a name.
--- Assumes nothing.
 use mathlib.Core.Path.{_≡_}
 use Prim.Native.Nat.{ℕ, _≤_, _<_}
 use Rattle.words.specs.Words.{formatWord, versionWord, Near}

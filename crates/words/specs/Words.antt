@@ -1,5 +1,4 @@
 -- The format word and the version word, and what a copy of one stands for.
--- Assumes nothing.
 use mathlib.Core.List.{[], _∷_}
 use Prim.Native.Nat.{ℕ, zero, suc, _+_, _-_, _*_, _/_, _%_, _^_, _≤_}
 use lib.Bits.{bitAnd, bitXor}

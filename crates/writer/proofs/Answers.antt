@@ -1,5 +1,4 @@
 -- The answer of `write`, refused or drawn, from what its steps gave.
--- Assumes nothing.
 use mathlib.Core.Path.{_≡_, refl, _∙_}
 use mathlib.Core.Bool.{Bool, true, false}
 use mathlib.Core.Logic.{_≢_, inl, inr}
@@ -13,9 +12,10 @@ use Rattle.basics.specs.Lists.{AtMost}
 use Rattle.tables.specs.Tables.{side, Lawful}
 use Rattle.stream.specs.Stream.{LawfulMessage, lawfulList, counts, lawfulCharacters}
 use Rattle.modules.proofs.Geometry.{symbol-length}
+use Rattle.writer.specs.declared.Checked.{Checked}
 use Rattle.writer.specs.declared.Drawing.the-variants as answers
-use Rattle.writer.specs.Writer.{Request, Drawn, Refused, inRange, unless, taken, refusal, chosen, codewords, drawAt, answered, draw}
-use Rattle.writer.specs.Answer.{DrawsAt, Writes}
+use Rattle.writer.specs.Writer.{Request, Drawn, Refused, inRange, unless, taken, refusal, chosen, codewords, drawAt, refusedOr, draw}
+use Rattle.writer.specs.Answer.{Checks, DrawsAt, Writes}
 use Rattle.writer.proofs.Fit.{fit-rule}
 use Rattle.writer.proofs.Drawn.{sound, taken-lawful}
 
@@ -45,8 +45,7 @@ accepted-lawful r out e bytes =
     let three = unless-passed (eqb (counts (r .list)) (length (r .payload))) 3 _ (omega arith) (two .1) in
     let four = unless-passed (lawfulCharacters (r .list) (r .payload)) 4 _ (omega arith) (three .1) in
     let s = sound r out e in
-    let n : 10 < r .version → ⊥ = λ h. s .numbers (inr (inl h)) in
-    let rule = fit-rule (r .level) (r .version) (r .list) (omega arith) in
+    let rule = fit-rule (r .level) (r .version) (r .list) in
     record {
       bytes = bytes;
       modes = two .0;
@@ -66,11 +65,15 @@ accepted-mask r out e =
     let h : 8 < r .mask → ⊥ = λ l. sound r out e .numbers (inr (inr l)) in
     omega arith
 
+-- with no refusal the version is the one taken
+pub version-beside : (r : Request) (out : ℕ) (c : Checked) → Checks r out c → refusal r out ≡ 0 → c .version ≡ taken (r .level) (r .version) (r .list)
+version-beside r out c h e = rw e at (h .version)
+
 -- a refusal leaves the output
 pub writes-refusal : (r : Request) (out : List ℕ) (n : ℕ) → n ≡ refusal r (length out) → n ≢ 0 → Writes r out (answers.Refused n) out
 writes-refusal r out n e z =
     let d = draw-refused r (length out) n e z in
-    record { answered = rw d; output = rw d }
+    record { given = rw d; output = rw d }
 
 -- a drawing stands in front of what was past it
 pub writes-drawing : (r : Request) (out : List ℕ) (v drawn s : ℕ) (after : List ℕ) → refusal r (length out) ≡ 0
@@ -81,6 +84,6 @@ writes-drawing r out v drawn s after z e a f =
     let d = draw-accepted r (length out) z in
     let l : Lawful v (r .level) = rw e (taken-lawful r (length out) z) in
     record {
-      answered = rw (d, ← e, f, a .choice);
+      given = rw (d, ← e, f, a .choice);
       output = rw (d, ← e) (a .drawing ∙ rw (a .choice, symbol-length v (l .least) (l .most) (r .level) (chosen v (r .level) (r .mask) (codewords v r)) (codewords v r)));
     }

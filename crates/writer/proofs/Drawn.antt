@@ -1,5 +1,4 @@
 -- What is drawn: the version taken, the mask forced or chosen by the least score, and the symbol of the message's codewords.
--- Assumes nothing.
 use mathlib.Core.Path.{_≡_, refl, sym, ap, _∙_}
 use mathlib.Core.Logic.{_≢_, _⊎_, inl, inr, by-cases}
 use mathlib.Core.List.{List, map}
@@ -16,7 +15,7 @@ use Rattle.modules.proofs.Geometry.{symbol-length, symbol-le}
 use Rattle.penalty.specs.Penalty.{score, leastPlace}
 use Rattle.penalty.specs.Promise.{LeastRule}
 use Rattle.penalty.proofs.Least.{least}
-use Rattle.writer.specs.Writer.{Request, Drawing, Drawn, taken, refusal, codewords, chosen, drawAt, answered, draw}
+use Rattle.writer.specs.Writer.{Request, Drawing, Drawn, taken, refusal, codewords, chosen, drawAt, refusedOr, draw}
 use Rattle.writer.specs.Promise.{BadNumber, BadList, BadCounts, BadCharacter, NoFit, Short, DrawnRules, DrawnModules}
 use Rattle.writer.proofs.Fit.{fit-rule}
 use Rattle.writer.proofs.Refusals.{refusals}
@@ -51,14 +50,13 @@ pub taken-lawful : (r : Request) (out : ℕ) → refusal r out ≡ 0 → Lawful 
 taken-lawful r out z =
     let s = sound r out z in
     let l : 3 < r .level → ⊥ = λ h. s .numbers (inl h) in
-    let n : lastVersion < r .version → ⊥ = λ h. s .numbers (inr (inl h)) in
-    let rule = fit-rule (r .level) (r .version) (r .list) (omega arith) in
+    let rule = fit-rule (r .level) (r .version) (r .list) in
     let t : taken (r .level) (r .version) (r .list) ≢ 0 = λ e. s .fit (rule .none .0 e) in
     record { least = omega arith; most = rule .within; levels = omega arith }
 
 -- ---- what is drawn
 
-not-refused : (n : ℕ) (d : Drawing) (v mask : ℕ) (modules : List ℕ) → answered n d ≡ Drawn v mask modules → (n ≡ 0) × (d ≡ Drawn v mask modules)
+not-refused : (n : ℕ) (d : Drawing) (v mask : ℕ) (modules : List ℕ) → refusedOr n d ≡ Drawn v mask modules → (n ≡ 0) × (d ≡ Drawn v mask modules)
 not-refused zero d v mask modules e = (refl, e)
 not-refused (suc n) d v mask modules e = absurd (let z : _≡_ {A = ℕ} 0 1 = cc in omega arith)
 

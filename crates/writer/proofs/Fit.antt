@@ -1,5 +1,4 @@
 -- The version that is taken: the named one where it fits, with version 0 the smallest that fits, and 0 where there is none.
--- Assumes nothing.
 use mathlib.Core.Path.{_≡_, refl, sym, _∙_}
 use mathlib.Core.Bool.{Bool, true, false, cond, true≢false}
 use mathlib.Core.Logic.{_≢_, by-cases}
@@ -11,6 +10,7 @@ use borrow.Author.Tests.{ne-eqb}
 use Rattle.basics.specs.Lists.{from, keep}
 use Rattle.tables.specs.Tables.{lastVersion}
 use Rattle.stream.specs.Stream.{fits}
+use Rattle.stream.proofs.Fitting.{above-last}
 use Rattle.writer.specs.Writer.{taken, frontOr0}
 use Rattle.writer.specs.Promise.{FitRule, FitRules}
 
@@ -88,14 +88,15 @@ fit-least level list =
 pub taken-none : (level : ℕ) (list : List ℕ) → ((k : ℕ) → 1 ≤ k → k ≤ lastVersion → fits k level list ≡ false) → taken level 0 list ≡ 0
 taken-none level list none = fit-least level list .none .1 (λ v l m n. none v l m)
 
-fit-named : (level version : ℕ) (list : List ℕ) → version ≤ lastVersion → version ≢ 0 → FitRule level version list
-fit-named level version list h z = by-test (fits version level list) refl
+fit-named : (level version : ℕ) (list : List ℕ) → version ≢ 0 → FitRule level version list
+fit-named level version list z = by-test (fits version level list) refl
   where
     by-test : (b : Bool) → fits version level list ≡ b → FitRule level version list
     by-test true t =
         let e = taken-named level version list z t in
+        let past : lastVersion < version → ⊥ = λ h. true≢false (sym t ∙ above-last version level list h) in
         record {
-          none = (λ n. absurd (z (sym e ∙ n)), λ n. absurd (true≢false (sym t ∙ n version (omega (arith, z)) h (λ _. refl))));
+          none = (λ n. absurd (z (sym e ∙ n)), λ n. absurd (true≢false (sym t ∙ n version (omega (arith, z)) (omega arith) (λ _. refl))));
           within = omega arith;
           takes = λ _. rw e t;
           named = λ _ _. e;
@@ -113,5 +114,5 @@ fit-named level version list h z = by-test (fits version level list) refl
 
 -- "version (1 to 10, or 0 for the smallest v that fits)"
 pub fit-rule : FitRules
-fit-rule level version list h =
-    by-cases (ℕ-discrete version 0) (λ (e : version ≡ 0). rw e (fit-least level list)) (fit-named level version list h)
+fit-rule level version list =
+    by-cases (ℕ-discrete version 0) (λ (e : version ≡ 0). rw e (fit-least level list)) (fit-named level version list)

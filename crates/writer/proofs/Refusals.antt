@@ -1,5 +1,4 @@
 -- "The writer checks 1 to 6 in order": each refusal exactly under its own words, after those before it.
--- Assumes nothing.
 use mathlib.Core.Path.{_≡_, refl}
 use mathlib.Core.Bool.{Bool, true, false, _&&_}
 use mathlib.Core.Logic.{_⊎_, inl, inr, ⊎-elim}
@@ -73,11 +72,27 @@ refusals r out =
     (λ e f. f (eqb-true (counts (r .list)) (length (r .payload)) e)) (eqb-false (counts (r .list)) (length (r .payload))) (λ sums.
     next (lawfulCharacters (r .list) (r .payload)) 4 _ (BadCharacter (r .list) (r .payload)) (Five r out)
     (characters-lawful (r .list) (r .payload) (omega (arith, eqb-true (counts (r .list)) (length (r .payload)) sums))) (characters-faulty (r .list) (r .payload)) (λ characters.
-    let rule = fit-rule (r .level) (r .version) (r .list) (numbers-right r numbers .1 .0) in
+    let rule = fit-rule (r .level) (r .version) (r .list) in
     next (leb 1 v) 5 _ (NoFit (r .level) (r .version) (r .list)) (Six r out)
     (λ e f. omega (arith, leb-true 1 v e, rule .none .1 f)) (λ e. rule .none .0 (omega (arith, leb-false 1 v e))) (λ fit.
     next (leb (side v * side v) out) 6 0 (Short r out) (λ k. k ≡ 0)
     (λ e f. omega (arith, leb-true (side v * side v) out e)) (leb-false (side v * side v) out) (λ room. refl))))))
+
+-- ---- no number but 1 to 6, and 0
+
+unless-most : (b : Bool) (n k : ℕ) → n ≤ 6 → k ≤ 6 → unless b n k ≤ 6
+unless-most true n k h l = l
+unless-most false n k h l = h
+
+pub refusal-most : (r : Request) (out : ℕ) → refusal r out ≤ 6
+unfolding refusal
+refusal-most r out =
+    let v = taken (r .level) (r .version) (r .list) in
+    unless-most (inRange (r .level) (r .version) (r .mask)) 1 _ (omega arith)
+    (unless-most (lawfulList (r .list)) 2 _ (omega arith)
+    (unless-most (eqb (counts (r .list)) (length (r .payload))) 3 _ (omega arith)
+    (unless-most (lawfulCharacters (r .list) (r .payload)) 4 _ (omega arith)
+    (unless-most (leb 1 v) 5 _ (omega arith) (unless-most (leb (side v * side v) out) 6 0 (omega arith) (omega arith))))))
 
 -- ---- the number, from what the checks gave
 

@@ -1,5 +1,4 @@
 -- What the steps of a drawing hand on: the finished matrix in front of the output, and the place of the least score, mask by mask.
--- Assumes nothing.
 use mathlib.Core.Path.{_≡_, refl, ap, _∙_}
 use mathlib.Core.Bool.{cond}
 use mathlib.Core.Logic.{by-cases}

@@ -1,6 +1,5 @@
 -- What is promised of a request's answer, beside the contract of `write`: each refusal under its own words and in order,
 -- the version that is taken, the mask that is chosen, the modules that are drawn.
--- Assumes nothing.
 use mathlib.Core.Path.{_≡_}
 use mathlib.Core.Logic.{_≢_, _⊎_, _↔_}
 use mathlib.Core.Bool.{true, false}
@@ -68,7 +67,7 @@ pub record FitRule (level version : ℕ) (list : List ℕ) : Type 0 where
   pub least : (v : ℕ) → 1 ≤ v → v < taken level 0 list → fits v level list ≡ false
 
 abbrev pub FitRules : Type 0
-FitRules = (level version : ℕ) (list : List ℕ) → version ≤ lastVersion → FitRule level version list
+FitRules = (level version : ℕ) (list : List ℕ) → FitRule level version list
 
 -- ---- the symbol
 

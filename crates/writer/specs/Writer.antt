@@ -1,5 +1,4 @@
 -- The symbol that a request gets, or its refusal.
--- Assumes nothing.
 use mathlib.Core.Bool.{Bool, cond, _&&_}
 use mathlib.Core.List.{List, [], _∷_, _++_, map}
 use Prim.Native.Nat.{ℕ, zero, suc, _*_}
@@ -24,12 +23,12 @@ pub record Request : Type 0 where
 abbrev pub request : (payload list : List ℕ) (level version mask : ℕ) → Request
 request p l e v m = record { payload = p; list = l; level = e; version = v; mask = m }
 
--- the first of the list, or 0
+-- the first of the list, or 0 where it is empty
 abbrev pub frontOr0 : List ℕ → ℕ
 frontOr0 [] = 0
 frontOr0 (v ∷ vs) = v
 
--- the version taken; 0 where "the named version" does not fit or, "with version 0, no version 1 to 10 fits"
+-- the version taken; 0 where "the named version" does not fit, as none outside 1 to 10 does, or, "with version 0, no version 1 to 10 fits"
 unfoldable pub taken : (level version : ℕ) → List ℕ → ℕ
 taken level version list = frontOr0 (keep (λ v. fits v level list) (cond (eqb version 0) (from 1 lastVersion) (version ∷ [])))
 
@@ -71,12 +70,13 @@ drawAt v r =
     let mask = chosen v (r .level) (r .mask) cs in
     Drawn v mask (symbol v (r .level) mask cs)
 
-abbrev pub answered : (refusal : ℕ) → Drawing → Drawing
-answered zero d = d
-answered (suc n) d = Refused (suc n)
+-- the refusal where there is one, or else what is drawn
+abbrev pub refusedOr : (refusal : ℕ) → Drawing → Drawing
+refusedOr zero d = d
+refusedOr (suc n) d = Refused (suc n)
 
 unfoldable pub draw : Request → (out : ℕ) → Drawing
-draw r out = answered (refusal r out) (drawAt (taken (r .level) (r .version) (r .list)) r)
+draw r out = refusedOr (refusal r out) (drawAt (taken (r .level) (r .version) (r .list)) r)
 
 -- "It writes the first s·s output bytes only"; on a refusal, "Output memory is unchanged"
 abbrev pub outputAfter : Drawing → (out : List ℕ) → List ℕ

@@ -8,16 +8,10 @@ ghost use Rattle.blocks.specs.Blocks.{sent};
 ghost use Rattle.modules.specs.Kinds.{laid, finished};
 ghost use Rattle.penalty.specs.Penalty.{score};
 ghost use Rattle.writer.specs.Writer.{request, inRange, taken};
-ghost use Rattle.writer.specs.Answer.{Checks, Base, Beyond, leastMask, maskDrawn, Room, Finishes, Buffers, DrawsAt, Writes};
-
-// The last version.
-const LAST_VERSION: usize = 10;
-
-// The most codewords that a version has.
-const MOST_CODEWORDS: usize = 346;
-
-// The most modules that a version has.
-const MOST_MODULES: usize = 3249;
+ghost use Rattle.writer.specs.Answer.{Checks, Base, Beyond, leastMask, maskDrawn, LayingBuffers, Finishes, DrawingBuffers, DrawsAt, Writes};
+use tables::LAST_VERSION;
+use tables::MOST_CODEWORDS;
+use tables::MOST_MODULES;
 
 // The smallest version that fits, or 0.
 fn smallest(level: usize, list: &[u16]) -> usize
@@ -61,7 +55,7 @@ fn in_range(level: usize, version: usize, mask: usize) -> bool
     mask <= 8
 }
 
-// The refusal of a request, and the version taken where there is none.
+// The refusal of a request and version 0, or refusal 0 and the version taken.
 struct Checked {
     refusal: u8,
     version: usize,
@@ -122,7 +116,7 @@ fn check(
     }
 }
 
-// The codewords of a message as they are sent; `held` is for its data codewords on the way.
+// The codewords of a message as they are sent; `held` is for its data codewords and their checks on the way.
 fn send_message(
     payload: &[u8],
     list: &[u16],
@@ -135,8 +129,9 @@ fn send_message(
     ensures { λ _. ⌜ now (out .exit) ≡ sent v level (dataCodewords v level (now (list .entry)) (now (payload .entry))) ⌝ }
 {
     let count = tables::data(v, level);
+    let all = tables::total(v);
     stream::encode(payload, list, v, level, &mut held[..count]);
-    blocks::send(&held[..count], v, level, out);
+    blocks::send(&mut held[..all], v, level, out);
 }
 
 // The score under a mask, whose symbol then stands in `out`.
@@ -190,7 +185,7 @@ fn lay_message(
     words: &mut [u8],
     base: &mut [u8],
 )
-    requires { ⌜ Lawful v level × (LawfulMessage v level (now payload) (now list) × Room v (now held) (now words) (now base)) ⌝ }
+    requires { ⌜ Lawful v level × (LawfulMessage v level (now payload) (now list) × LayingBuffers v (now held) (now words) (now base)) ⌝ }
     ensures { λ _. ⌜ now (base .exit) ≡ laid v (sent v level (dataCodewords v level (now (list .entry)) (now (payload .entry)))) ⌝ }
 {
     let t = tables::total(v);
@@ -220,7 +215,7 @@ fn draw_at(
     base: &mut [u8],
     out: &mut [u8],
 ) -> usize
-    requires { ⌜ Lawful v level × (LawfulMessage v level (now payload) (now list) × ((mask ≤ 8) × Buffers v (now held) (now words) (now base) (now out))) ⌝ }
+    requires { ⌜ Lawful v level × (LawfulMessage v level (now payload) (now list) × ((mask ≤ 8) × DrawingBuffers v (now held) (now words) (now base) (now out))) ⌝ }
     ensures { λ r. ⌜ DrawsAt v level mask (sent v level (dataCodewords v level (now (list .entry)) (now (payload .entry)))) (now (out .entry)) r (now (out .exit)) ⌝ }
 {
     let s = tables::side(v);

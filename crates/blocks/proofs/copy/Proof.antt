@@ -1,5 +1,4 @@
 -- `blocks::copy` meets its contract. The invariant: the first k entries are copied.
--- Assumes nothing.
 use mathlib.Core.Path.{_≡_, refl, sym, _∙_}
 use Prim.Native.Nat.{_-_, _≤_}
 use native.Mathlib.Numerals.{add-one}

@@ -1,7 +1,5 @@
 -- `blocks::deal` meets its contract. The invariant: the first k codewords are at their places.
--- Assumes nothing.
 use mathlib.Core.Path.{_≡_, refl}
-use mathlib.Core.Bool.{true}
 use Prim.Native.Nat.{_+_, _-_, _≤_}
 use native.Mathlib.Nat.{le-antisymm}
 use native.Mathlib.Omega.{arith}
@@ -16,7 +14,7 @@ use Rattle.blocks.proofs.deal.Tie as tie
 abbrev Inv-loop : tie.InvT-loop
 Inv-loop part v level b first out₀ s k₀ out k =
     (k ≤ length part)
-    × ((length out ≡ length out₀) × (out ≡ walked (λ k. sentPlace v level b (first + k)) (λ k. true) (λ k. getD part k 0) k out₀))
+    × ((length out ≡ length out₀) × (out ≡ walked (λ k. sentPlace v level b (first + k)) (λ k. getD part k 0) k out₀))
 
 abbrev μ-loop : tie.MeasureT-loop
 μ-loop part v level b first out₀ s k₀ out k = length part - k

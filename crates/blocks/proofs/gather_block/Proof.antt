@@ -1,5 +1,4 @@
 -- `blocks::gather_block` meets its contract. The invariant: the first p codewords of the block are gathered.
--- Assumes nothing.
 use mathlib.Core.Path.{_≡_, refl, ap, _∙_}
 use Prim.Native.Nat.{ℕ, _-_, _≤_}
 use native.Mathlib.Omega.{arith}
@@ -14,11 +13,11 @@ use Rattle.blocks.proofs.gather_block.Statement.{statement}
 use Rattle.blocks.proofs.gather_block.Tie as tie
 
 abbrev Inv-loop : tie.InvT-loop
-Inv-loop sent v level b out₀ s p₀ out p =
-    (p ≤ length out₀) × ((length out ≡ length out₀) × (take p out ≡ build (λ p. getD sent (sentPlace v level b p) 0) p))
+Inv-loop received v level b out₀ s p₀ out p =
+    (p ≤ length out₀) × ((length out ≡ length out₀) × (take p out ≡ build (λ p. getD received (sentPlace v level b p) 0) p))
 
 abbrev μ-loop : tie.MeasureT-loop
-μ-loop sent v level b out₀ s p₀ out p = length out₀ - p
+μ-loop received v level b out₀ s p₀ out p = length out₀ - p
 
 -- the codeword of this turn is one of the block
 turn : (c : tie.In-loop Inv-loop μ-loop) → let a = c .before .before .before .before .before .args in Turn (c .before .before .sizes-of .result) (a .v) (a .level) (a .b) (c .before .loop .p)
@@ -56,8 +55,8 @@ loop-again c =
       omega arith,
       (
         simp length-set (l .inv .1 .0),
-        build-put (λ p. getD (a .sent .now) (sentPlace (a .v) (a .level) (a .b) p) 0) (l .out) (l .p) _ (l .inv .1 .1) (omega arith)
-            (ap (λ (q : ℕ). getD (a .sent .now) q 0) (turn (c .before .before) .given (c .before .place .result) (c .before .place .ensures) .0)),
+        build-put (λ p. getD (a .received .now) (sentPlace (a .v) (a .level) (a .b) p) 0) (l .out) (l .p) _ (l .inv .1 .1) (omega arith)
+            (ap (λ (q : ℕ). getD (a .received .now) q 0) (turn (c .before .before) .given (c .before .place .result) (c .before .place .ensures) .0)),
       ),
     )
 
@@ -70,7 +69,7 @@ returns c =
     let l = c .before .loop in
     let start = c .before .before .before .before .before in
     let a = start .args in
-    built (λ p. getD (a .sent .now) (sentPlace (a .v) (a .level) (a .b) p) 0) (l .out) (l .p) (blockLength (a .v) (a .level) (a .b)) (l .inv .1 .1)
+    built (λ p. getD (a .received .now) (sentPlace (a .v) (a .level) (a .b) p) 0) (l .out) (l .p) (blockLength (a .v) (a .level) (a .b)) (l .inv .1 .1)
     (omega (arith, start .pre .0 .1 .1)) (l .inv .1 .0 ∙ start .pre .0 .1 .1)
 
 pub gather-block-spec : {M : Type 1} → statement M

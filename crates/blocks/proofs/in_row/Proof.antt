@@ -1,5 +1,4 @@
 -- `blocks::in_row` meets its contract: a row below 256 has at most 8 codewords.
--- Assumes nothing.
 use mathlib.Core.Path.{refl}
 use Prim.Native.Nat.{ℕ, _*_, _<_, _≤_}
 use native.Mathlib.Nat.{mul-le-mul}

@@ -1,5 +1,4 @@
 -- `blocks::place` meets its contract: one case of the closed form at each return.
--- Assumes nothing.
 use mathlib.Core.Path.{sym, ap, _∙_}
 use Prim.Native.Nat.{ℕ, _+_}
 use native.Mathlib.Omega.{arith}

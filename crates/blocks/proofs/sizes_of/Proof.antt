@@ -1,5 +1,4 @@
 -- `blocks::sizes_of` meets its contract: each number is the table's.
--- Assumes nothing.
 use borrow.Author.Needs.{needs}
 use Rattle.blocks.specs.Sizes.{sizesOf}
 use Rattle.blocks.proofs.sizes_of.Statement.{statement}

@@ -1,5 +1,4 @@
 -- `blocks::take_data` meets its contract. The invariant: the data of the first b blocks is copied, and the rest is as it was.
--- Assumes nothing.
 use mathlib.Core.Path.{_≡_, refl, sym, _∙_}
 use Prim.Native.Nat.{_+_, _-_, _<_, _≤_}
 use native.Mathlib.Nat.{le-antisymm}
@@ -25,15 +24,19 @@ Inv-loop blocks v level out₀ count checks w₀ a₀ b₀ out w a b =
 abbrev μ-loop : tie.MeasureT-loop
 μ-loop blocks v level out₀ count checks w₀ a₀ b₀ out w a b = count - b
 
+-- the entry, from the head of the loop
+abbrev begun : tie.At-loop Inv-loop μ-loop → tie.Start Inv-loop μ-loop
+begun c = c .before .before .before .before .before
+
 -- the block that is next is one of them; its codewords are within the blocks, and its data is within the buffer
 room : (c : tie.After-block-data Inv-loop μ-loop)
-    → let a = c .before .before .before .before .before .before .before .args in
+    → let a = begun (c .before .before) .args in
     let l = c .before .before .loop in
     (l .b < blockCount (a .v) (a .level))
     × ((l .w + c .block-data .result + c .before .before .before .checks .result ≤ length (a .blocks .now)) × (l .a + c .block-data .result ≤ length (l .out)))
 unfolding blockLength
 room c =
-    let start = c .before .before .before .before .before .before .before in
+    let start = begun (c .before .before) in
     let a = start .args in
     let l = c .before .before .loop in
     let next : l .b < blockCount (a .v) (a .level) = omega (arith, c .before .before .before .before .blocks2 .ensures) in (
@@ -55,7 +58,7 @@ unfolding blockOffset blockStart sum
 loop-holds c = (omega arith, (refl, (refl, (refl, fill-none _ _))))
 
 block-data-requires : tie.Need-block-data-requires Inv-loop μ-loop
-block-data-requires c κs = c .before .before .before .before .before .before .pre .0
+block-data-requires c κs = begun (c .before) .pre .0
 
 add-f : tie.Need-add-f Inv-loop μ-loop
 add-f c = omega (arith, room c)
@@ -84,7 +87,7 @@ part-copy-end-2 c = omega (arith, room (c .before))
 copy-requires : tie.Need-copy-requires Inv-loop μ-loop
 copy-requires c κs =
     let k = c .before .before in
-    let fits : k .before .before .loop .w + k .block-data .result ≤ length (k .before .before .before .before .before .before .before .args .blocks .now) = omega (arith, room k) in
+    let fits : k .before .before .loop .w + k .block-data .result ≤ length (begun (k .before .before) .args .blocks .now) = omega (arith, room k) in
     length-part _ _ _ fits ∙ sym (length-part _ _ _ (room k .1 .1))
 
 add-w : tie.Need-add-w Inv-loop μ-loop
@@ -99,14 +102,15 @@ loop-less c = omega arith
 loop-again : tie.Need-loop-again Inv-loop μ-loop
 unfolding blockLength
 loop-again c =
-    let start = c .before .before .before .before .before .before .before .before .before .before .before .before in
+    let copied = c .before .before in
+    let k = copied .before .before .before in
+    let start = begun (k .before .before) in
     let a = start .args in
-    let l = c .before .before .before .before .before .before .before .loop in
-    let k = c .before .before .before .before .before in
-    let ys = c .before .before .copy .last .1 .0 in
+    let l = k .before .before .loop in
+    let ys = copied .copy .last .1 .0 in
     let long : k .block-data .result ≡ blockData (a .v) (a .level) (l .b) = k .block-data .ensures in
     let took : ys ≡ take (blockData (a .v) (a .level) (l .b)) (blockOf (a .v) (a .level) (a .blocks .now) (l .b)) =
-    c .before .before .copy .ensures ∙ the-data (a .v) (a .level) (a .blocks .now) (l .b) (l .w) (k .block-data .result) (l .inv .1 .0) long in (
+    copied .copy .ensures ∙ the-data (a .v) (a .level) (a .blocks .now) (l .b) (l .w) (k .block-data .result) (l .inv .1 .0) long in (
       omega (arith, room k),
       (
         rw add-one (omega (arith, offset-next (a .v) (a .level) (l .b), k .before .before .before .checks .ensures)),
@@ -129,7 +133,7 @@ same-length c = c .before .loop .inv .1 .1 .1 .0
 returns : tie.Need-returns Inv-loop μ-loop
 unfolding dataOf
 returns c =
-    let start = c .before .before .before .before .before .before in
+    let start = begun (c .before) in
     let a = start .args in
     let l = c .before .loop in
     fill-all (λ b. take (blockData (a .v) (a .level) b) (blockOf (a .v) (a .level) (a .blocks .now) b)) (blockData (a .v) (a .level)) (l .out) (a .out .now) (l .b) (l .a) _

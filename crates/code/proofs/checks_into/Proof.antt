@@ -1,5 +1,4 @@
 -- `code::checks_into` meets its contract: the loop copies the remainder, one place a turn.
--- Assumes nothing.
 use mathlib.Core.Path.{_≡_, _∙_}
 use Prim.Native.Nat.{_-_, _≤_}
 use native.Mathlib.Omega.{arith}
@@ -44,7 +43,7 @@ same-length c = search needs
 returns : tie.Need-returns Inv-loop μ-loop
 returns c =
     let l = c .before .loop in
-    copied-all (c .before .before .remainder .result) (l .out) (l .j) (length (c .before .before .before .before .before .args .out .now)) (l .inv .2) (l .inv .1) (omega arith) ∙ c .before .before .remainder .ensures
+    copied-all (c .before .before .remainder .result) (l .out) (l .j) (length (c .before .before .before .before .before .args .out .now)) (l .inv .2) (l .inv .1) (omega arith) ∙ c .before .before .remainder .ensures .0
 
 pub checks-into-spec : {M : Type 1} → statement M
 checks-into-spec =

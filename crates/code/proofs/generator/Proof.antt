@@ -1,5 +1,4 @@
 -- `code::generator` meets its contract: after i turns the generator for i checks stands in the array.
--- Assumes nothing.
 use mathlib.Core.Path.{_≡_, refl}
 use Prim.Native.Nat.{_-_, _≤_}
 use native.Mathlib.Numerals.{add-one}

@@ -1,5 +1,4 @@
 -- `code::horner` meets its contract: the loop builds the values from the front.
--- Assumes nothing.
 use mathlib.Core.Path.{_≡_}
 use Prim.Native.Nat.{_-_, _≤_}
 use native.Mathlib.Omega.{arith}

@@ -1,5 +1,4 @@
 -- `code::powers` meets its contract: the loop builds the powers from the front.
--- Assumes nothing.
 use mathlib.Core.Path.{_≡_, refl}
 use Prim.Native.Nat.{_-_, _≤_}
 use native.Mathlib.Numerals.{add-one}

@@ -1,5 +1,4 @@
 -- `code::reduce` meets its contract: the loop fills the coefficients from the front.
--- Assumes nothing.
 use mathlib.Core.Path.{_≡_}
 use Prim.Native.Nat.{_-_, _≤_}
 use native.Mathlib.Numerals.{add-one}

@@ -1,14 +1,14 @@
 -- `code::syndromes` meets its contract: the loop keeps the first n values.
--- Assumes nothing.
 use mathlib.Core.Path.{_≡_, ap, _∙_}
 use mathlib.Core.List.{List}
 use Prim.Native.Nat.{ℕ, _-_, _≤_}
 use native.Mathlib.Omega.{arith}
 use borrow.Author.Needs.{needs}
 use lib.ListN.{getD}
-use Rattle.basics.proofs.Build.{build-get}
+use Rattle.basics.proofs.Build.{build-get, build-length}
 use Rattle.field.specs.Field.{powN}
 use Rattle.code.specs.Code.{value, syndromesOf}
+use Rattle.code.specs.Lanes.{padded}
 use Rattle.code.proofs.Lanes.{fill, fill-none, fill-more}
 use Rattle.code.proofs.syndromes.Statement.{statement}
 use Rattle.code.proofs.syndromes.Tie as tie
@@ -41,14 +41,16 @@ loop-again : tie.Need-loop-again Inv-loop μ-loop
 loop-again c =
     let l = c .before .loop in
     let w = c .before .before .before .before .args .word .now in
-    (search needs, fill-more (λ k. value (powN k) w) 32 (l .i) _ (l .r) (l .inv .1) (search needs) (ap (λ (v : List ℕ). getD v (l .i) 0) (c .before .before .values .ensures) ∙ build-get (λ k. value (powN k) w) 32 (l .i) (search needs)))
+    let here : getD (c .before .before .values .result) (l .i) 0 ≡ value (powN (l .i)) w =
+    ap (λ (v : List ℕ). getD v (l .i) 0) (c .before .before .values .ensures) ∙ build-get (λ k. value (powN k) w) 32 (l .i) (search needs) in
+    (search needs, fill-more (λ k. value (powN k) w) 32 (l .i) _ (l .r) (l .inv .1) (search needs) here)
 
 returns : tie.Need-returns Inv-loop μ-loop
-unfolding fill syndromesOf
+unfolding fill syndromesOf padded
 returns c =
     let l = c .before .loop in
     let e : l .i ≡ c .before .before .before .before .args .n = omega arith in
-    rw e at (l .inv .1)
+    (rw e at (l .inv .1)) ∙ rw build-length
 
 pub syndromes-spec : {M : Type 1} → statement M
 syndromes-spec =

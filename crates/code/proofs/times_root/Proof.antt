@@ -1,5 +1,4 @@
 -- `code::times_root` meets its contract: the loop builds the coefficients from the front, the first of which stays.
--- Assumes nothing.
 use mathlib.Core.Path.{_≡_}
 use Prim.Native.Nat.{_+_, _-_, _≤_}
 use native.Mathlib.Numerals.{add-one}

@@ -1,5 +1,4 @@
 -- `code::values` meets its contract: after that many turns the values are those of the codewords that were read.
--- Assumes nothing.
 use mathlib.Core.Path.{_≡_, ap, _∙_}
 use Prim.Native.Nat.{_-_, _≤_}
 use native.Mathlib.Omega.{arith}

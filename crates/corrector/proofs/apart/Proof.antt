@@ -1,4 +1,4 @@
--- `corrector::apart` meets its contract. Assumes nothing.
+-- `corrector::apart` meets its contract.
 use borrow.Author.Tests.{eq-eqb, ne-eqb}
 use Rattle.corrector.proofs.apart.Statement.{statement}
 use Rattle.corrector.proofs.apart.Tie as tie

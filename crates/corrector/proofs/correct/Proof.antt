@@ -1,4 +1,4 @@
--- `corrector::correct` meets its contract. Assumes nothing.
+-- `corrector::correct` meets its contract.
 use mathlib.Core.Path.{refl, sym}
 use native.Mathlib.Omega.{arith}
 use denote.Ref.{now}

@@ -1,6 +1,6 @@
--- `corrector::evaluator` meets its contract. Assumes nothing.
+-- `corrector::evaluator` meets its contract.
 use borrow.Author.Needs.{needs}
-use Prim.Native.Nat.{_-_, _≤_}
+use Prim.Native.Nat.{ℕ, _-_, _≤_, _<_}
 use mathlib.Core.Path.{_≡_, ap, _∙_}
 use native.Mathlib.Omega.{arith}
 use mir.Val.{Fits}
@@ -48,8 +48,11 @@ loop-again c =
     let a = start .args .a in
     let s = start .args .t2 in
     let t = c .times-plus .result in
-    let made : t ≡ timesPlus _ (filled (getD s (l .k) 0)) (l .r) = c .times-plus .ensures ∙ ap (λ u. timesPlus u (filled (getD s (l .k) 0)) (l .r)) (c .before .lower .ensures) in
-    (record { long = search needs; bytes = λ h. let f : Fits w8 (getD t h 0) = search needs in omega (arith, f) }, omega arith, λ h. ap (λ u. poly u h) made ∙ summed-turn a s (l .r) (l .k) (λ h. let f : Fits w8 (getD a h 0) = search needs in omega (arith, f)) (search needs) (l .inv .0 .long) (l .inv .2) h)
+    let made : t ≡ timesPlus _ (filled (getD s (l .k) 0)) (l .r) =
+    c .times-plus .ensures ∙ ap (λ u. timesPlus u (filled (getD s (l .k) 0)) (l .r)) (c .before .lower .ensures) in
+    let row : Row t = record { long = search needs; bytes = λ h. let f : Fits w8 (getD t h 0) = search needs in omega (arith, f) } in
+    let bytes : (h : ℕ) → getD a h 0 < 256 = λ h. let f : Fits w8 (getD a h 0) = search needs in omega (arith, f) in
+    (row, omega arith, λ h. ap (λ u. poly u h) made ∙ summed-turn a s (l .r) (l .k) bytes (search needs) (l .inv .0 .long) (l .inv .2) h)
 
 returns : tie.Need-returns Inv-loop μ-loop
 returns c =

@@ -1,4 +1,4 @@
--- `corrector::first` meets its contract. Assumes nothing.
+-- `corrector::first` meets its contract.
 use borrow.Author.Needs.{needs}
 use Prim.Native.Nat.{ℕ, _-_, _≤_, _<_}
 use mathlib.Core.Path.{_≡_}

@@ -1,4 +1,4 @@
--- `corrector::grouped` meets its contract. Assumes nothing.
+-- `corrector::grouped` meets its contract.
 use borrow.Author.Needs.{needs}
 use Prim.Native.Nat.{ℕ, _-_, _≤_, _<_}
 use mathlib.Core.Path.{_≡_}
@@ -20,7 +20,9 @@ use Rattle.corrector.proofs.grouped.Tie as tie
 abbrev Inv-loop : tie.InvT-loop
 Inv-loop flags top many vs xs list₀ i₀ list i =
     (i ≤ many) × (list .count ≤ 31)
-    × ((a : List ℕ) → ((i : ℕ) → i < many → poly vs i ≡ eval gf256 32 (poly a) (poly xs i)) → ((i : ℕ) → i < many → getD xs i 0 ≡ powN (length flags - (top - i))) → Found flags a top (list₀ .at) (list₀ .xs) (list₀ .count) → Found flags a (top - i) (list .at) (list .xs) (list .count))
+    × ((a : List ℕ) → ((i : ℕ) → i < many → poly vs i ≡ eval gf256 32 (poly a) (poly xs i))
+    → ((i : ℕ) → i < many → getD xs i 0 ≡ powN (length flags - (top - i)))
+    → Found flags a top (list₀ .at) (list₀ .xs) (list₀ .count) → Found flags a (top - i) (list .at) (list .xs) (list .count))
 
 abbrev μ-loop : tie.MeasureT-loop
 μ-loop flags top many vs xs list₀ i₀ list i = many - i

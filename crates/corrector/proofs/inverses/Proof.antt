@@ -1,4 +1,4 @@
--- `corrector::inverses` meets its contract. Assumes nothing.
+-- `corrector::inverses` meets its contract.
 use borrow.Author.Needs.{needs}
 use Prim.Native.Nat.{_-_}
 use mathlib.Core.Path.{_≡_}

@@ -1,4 +1,4 @@
--- `corrector::locator` meets its contract. Assumes nothing.
+-- `corrector::locator` meets its contract.
 use borrow.Author.Needs.{needs}
 use Prim.Native.Nat.{ℕ, _-_, _≤_}
 use mathlib.Core.Path.{_≡_, ap, _∙_}

@@ -1,4 +1,4 @@
--- `corrector::lower` meets its contract. Assumes nothing.
+-- `corrector::lower` meets its contract.
 use borrow.Author.Needs.{needs}
 use Prim.Native.Nat.{_+_, _-_, _≤_}
 use native.Mathlib.Omega.{arith}

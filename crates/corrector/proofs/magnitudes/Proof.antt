@@ -1,4 +1,4 @@
--- `corrector::magnitudes` meets its contract. Assumes nothing.
+-- `corrector::magnitudes` meets its contract.
 use native.Mathlib.Numerals.{add-one}
 use native.Mathlib.Omega.{arith}
 use mir.Val.{Fits}

@@ -1,4 +1,4 @@
--- `corrector::mark` meets its contract. Assumes nothing.
+-- `corrector::mark` meets its contract.
 use borrow.Author.Tests.{eq-eqb, ne-eqb}
 use Rattle.corrector.proofs.mark.Statement.{statement}
 use Rattle.corrector.proofs.mark.Tie as tie

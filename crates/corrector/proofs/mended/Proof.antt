@@ -1,4 +1,4 @@
--- `corrector::mended` meets its contract. Assumes nothing.
+-- `corrector::mended` meets its contract.
 use borrow.Author.Needs.{needs}
 use Prim.Native.Nat.{_-_, _≤_}
 use mathlib.Core.Path.{_≡_}

@@ -1,4 +1,4 @@
--- `corrector::missing` meets its contract. Assumes nothing.
+-- `corrector::missing` meets its contract.
 use borrow.Author.Needs.{needs}
 use Prim.Native.Nat.{ℕ, _-_, _≤_}
 use mathlib.Core.Path.{ap, _∙_}

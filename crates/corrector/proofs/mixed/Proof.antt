@@ -1,4 +1,4 @@
--- `corrector::mixed` meets its contract. Assumes nothing.
+-- `corrector::mixed` meets its contract.
 use mathlib.Core.Path.{ap₂, _∙_}
 use Rattle.corrector.specs.Lanes.{filled, timesPlus}
 use borrow.Author.Needs.{needs}

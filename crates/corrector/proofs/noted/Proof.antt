@@ -1,4 +1,4 @@
--- `corrector::noted` meets its contract. Assumes nothing.
+-- `corrector::noted` meets its contract.
 use mathlib.Core.Path.{_≡_, _∙_}
 use mathlib.Core.Logic.{⊎-elim}
 use mathlib.Core.Bool.{true, not, _||_}

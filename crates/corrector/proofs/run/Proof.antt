@@ -1,4 +1,4 @@
--- `corrector::run` meets its contract. Assumes nothing.
+-- `corrector::run` meets its contract.
 use borrow.Author.Needs.{needs}
 use mathlib.Core.Path.{_≡_, refl}
 use Prim.Native.Nat.{_+_, _-_, _≤_}

@@ -1,4 +1,4 @@
--- `corrector::slopes` meets its contract. Assumes nothing.
+-- `corrector::slopes` meets its contract.
 use borrow.Author.Needs.{needs}
 use Prim.Native.Nat.{_-_, _≤_}
 use mathlib.Core.Path.{_≡_, ap, _∙_}

@@ -1,4 +1,4 @@
--- `corrector::tested` meets its contract. Assumes nothing.
+-- `corrector::tested` meets its contract.
 use Prim.Native.Nat.{_≤_}
 use native.Mathlib.Omega.{arith}
 use denote.Ref.{now}

@@ -1,4 +1,4 @@
--- `corrector::times_plus` meets its contract. Assumes nothing.
+-- `corrector::times_plus` meets its contract.
 use borrow.Author.Needs.{needs}
 use Prim.Native.Nat.{_-_, _≤_}
 use mathlib.Core.Path.{_≡_, refl}

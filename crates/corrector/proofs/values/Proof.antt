@@ -1,4 +1,4 @@
--- `corrector::values` meets its contract. Assumes nothing.
+-- `corrector::values` meets its contract.
 use borrow.Author.Needs.{needs}
 use Prim.Native.Nat.{_-_, _≤_}
 use mathlib.Core.Path.{_≡_, ap, _∙_}
@@ -43,7 +43,12 @@ loop-again c =
     let start = c .before .before .before in
     let a = start .args .t1 in
     let t = c .times-plus .result in
-    (record { long = search needs; bytes = λ h. let f : Fits w8 (getD t h 0) = search needs in omega (arith, f) }, omega arith, λ i m. ap (λ u. poly u i) (c .times-plus .ensures) ∙ valued-turn a (start .args .xs) (l .r) (l .k) (omega arith) record { long = search needs; bytes = λ h. let f : Fits w8 (getD a h 0) = search needs in omega (arith, f) } (l .inv .0) (search needs) (l .inv .2) i m)
+    let row : Row t = record { long = search needs; bytes = λ h. let f : Fits w8 (getD t h 0) = search needs in omega (arith, f) } in
+    let coefficients : Row a = record { long = search needs; bytes = λ h. let f : Fits w8 (getD a h 0) = search needs in omega (arith, f) } in (
+      row,
+      omega arith,
+      λ i m. ap (λ u. poly u i) (c .times-plus .ensures) ∙ valued-turn a (start .args .xs) (l .r) (l .k) (omega arith) coefficients (l .inv .0) (search needs) (l .inv .2) i m,
+    )
 
 returns : tie.Need-returns Inv-loop μ-loop
 returns c =

@@ -1,4 +1,4 @@
--- `corrector::without` meets its contract. Assumes nothing.
+-- `corrector::without` meets its contract.
 use mathlib.Core.Path.{ap, _∙_}
 use borrow.Author.Tests.{eq-eqb, ne-eqb}
 use Rattle.corrector.specs.Lanes.{filled, timesPlus}

@@ -1,4 +1,4 @@
--- `corrector_try::attempt` is safe. Assumes nothing.
+-- `corrector_try::attempt` is safe.
 use Prim.Native.Nat.{_+_, _-_}
 use mathlib.Core.Path.{sym, _∙_}
 use native.Mathlib.Omega.{arith}

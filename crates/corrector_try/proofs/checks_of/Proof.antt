@@ -1,4 +1,4 @@
--- `corrector_try::checks_of` is safe. Assumes nothing.
+-- `corrector_try::checks_of` is safe.
 use mathlib.Core.Path.{sym}
 use native.Mathlib.Omega.{arith}
 use Prim.Native.Nat.{ℕ}

@@ -1,4 +1,4 @@
--- `corrector_try::every` is safe and ends. Assumes nothing.
+-- `corrector_try::every` is safe and ends.
 use borrow.Author.Needs.{needs}
 use Prim.Native.Nat.{_-_, _≤_}
 use Rattle.corrector_try.proofs.every.Statement.{statement}

@@ -1,4 +1,4 @@
--- `corrector_try::nearer` is safe. Assumes nothing.
+-- `corrector_try::nearer` is safe.
 use Prim.Native.Nat.{_-_}
 use mathlib.Core.Path.{sym}
 use native.Mathlib.Omega.{arith}

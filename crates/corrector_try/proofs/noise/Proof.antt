@@ -1,4 +1,4 @@
--- `corrector_try::noise` is safe and ends. Assumes nothing.
+-- `corrector_try::noise` is safe and ends.
 use borrow.Author.Needs.{needs}
 use Prim.Native.Nat.{_-_, _≤_, _<_}
 use mathlib.Core.Path.{_≡_}

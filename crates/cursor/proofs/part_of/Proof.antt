@@ -1,5 +1,4 @@
 -- `cursor::part_of` meets its contract.
--- Assumes nothing.
 use native.Mathlib.Omega.{arith}
 use lib.Pow.{pow-pos}
 use borrow.Author.Needs.{needs}

@@ -1,5 +1,4 @@
 -- `cursor::power` meets its contract.
--- Assumes nothing.
 use mathlib.Core.Path.{ap, _∙_}
 use Prim.Native.Nat.{ℕ, _%_, _^_, _<_, _≤_}
 use native.Mathlib.Nat.{one-mul, mod-eq-of-lt}

@@ -1,5 +1,4 @@
 -- `cursor::with_part` meets its contract: the byte is cut where its bits are cut.
--- Assumes nothing.
 use mathlib.Core.Path.{_≡_, ap, _∙_}
 use mathlib.Core.List.{_++_}
 use Prim.Native.Nat.{ℕ, _+_, _-_, _<_, _≤_}

@@ -1,5 +1,4 @@
 -- `field::dbl` meets its contract: the code and the definition are the same at each of the 256 bytes.
--- Assumes nothing.
 use Prim.Native.Nat.{_*_, _/_, _%_}
 use lib.Bits.{bitXor}
 use Rattle.field.specs.Field.{dblN}

@@ -1,5 +1,4 @@
 -- `field::inv` meets its contract. The loop's invariant: the product, times the powers of s that are left, is the inverse.
--- Assumes nothing.
 use mathlib.Core.Path.{_≡_, sym, _∙_}
 use Prim.Native.Nat.{ℕ, zero, suc, _-_, _<_}
 use native.Mathlib.Nat.{not-suc-le-zero}

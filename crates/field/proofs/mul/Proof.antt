@@ -1,5 +1,4 @@
 -- `field::mul` meets its contract. After the step of bit j the product is a times the bits of b from the j-th up.
--- Assumes nothing.
 use mathlib.Core.Path.{_≡_, _∙_, sym}
 use Prim.Native.Nat.{ℕ, suc, _+_, _*_, _/_, _%_, _^_}
 use lib.Bits.{bitXor, xor-zero-r}

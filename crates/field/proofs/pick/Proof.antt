@@ -1,5 +1,4 @@
 -- `field::pick` meets its contract.
--- Assumes nothing.
 use mathlib.Core.Path.{_≡_, sym}
 use Prim.Native.Nat.{_%_}
 use native.Mathlib.Nat.{zero-mul, one-mul}

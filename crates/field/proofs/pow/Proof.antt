@@ -1,5 +1,4 @@
 -- `field::pow` meets its contract: the power i is the product of the powers i/16·16 and i%16, which stand in the tables.
--- Assumes nothing.
 use mathlib.Core.Path.{ap, _∙_}
 use mathlib.Core.List.{List, [], _∷_}
 use Prim.Native.Nat.{ℕ, _*_, _/_, _%_, _<_}

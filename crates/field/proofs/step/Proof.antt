@@ -1,5 +1,4 @@
 -- `field::step` meets its contract.
--- Assumes nothing.
 use borrow.Author.Needs.{needs}
 use Rattle.field.proofs.step.Statement.{statement}
 use Rattle.field.proofs.step.Tie as tie

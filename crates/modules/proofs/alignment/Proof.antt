@@ -1,5 +1,4 @@
 -- `modules::alignment` meets its contract: one pair of centres, skipped at a finder, else a square.
--- Assumes nothing.
 use mathlib.Core.Path.{sym, _∙_}
 use Prim.Native.Nat.{_*_, _≤_}
 use native.Mathlib.Omega.{arith}
@@ -46,11 +45,21 @@ centre-requires-2 c κs =
 side-requires : tie.Need-side-requires
 side-requires c κs = search needs
 
-roomy : (c : tie.After-square-arg) → Room (c .before .before .before .centre .result) (c .before .before .centre2 .result) (c .before .side .result)
-roomy c =
-    let s = c .before .before .before .before .before .before .before .before in
-    room (s .args .v) _ (s .args .t) _ _ _ (omega arith) (omega arith) (c .before .before .before .before .before .before .centre-count .ensures)
-    (s .pre .1 .1 .0) (c .before .before .before .centre .ensures) (c .before .before .centre2 .ensures) (c .before .side .ensures)
+-- the square's numbers: how many centres there are, the entry, and what the matrix has room for
+module _ (c : tie.After-square-arg) where
+  abbrev counted : tie.After-centre-count
+  counted = c .before .before .before .before .before .before
+
+  abbrev start : tie.Start
+  start = counted .before .before
+
+  roomy : Room (c .before .before .before .centre .result) (c .before .before .centre2 .result) (c .before .side .result)
+  roomy =
+      room (start .args .v) _ (start .args .t) _ _ _ (omega arith) (omega arith) (counted .centre-count .ensures)
+      (start .pre .1 .1 .0) (c .before .before .before .centre .ensures) (c .before .before .centre2 .ensures) (c .before .side .ensures)
+
+  wide : side (start .args .v) * side (start .args .v) ≤ length (start .args .out .now)
+  wide = start .pre .1 .1 .1
 
 sub-square : tie.Need-sub-square
 sub-square c = roomy c .up
@@ -61,19 +70,18 @@ sub-square-2 c = roomy c .left
 square-requires : tie.Need-square-requires
 square-requires c κs =
     let r = roomy c in
-    let h : side (c .before .before .before .before .before .before .before .before .args .v) * side (c .before .before .before .before .before .before .before .before .args .v) ≤ length (c .before .before .before .before .before .before .before .before .args .out .now) =
-    c .before .before .before .before .before .before .before .before .pre .1 .1 .1 in
-    (omega arith, (omega arith, (r .small, (r .down, (r .right, rw (c .before .side .ensures) h)))))
+    (omega arith, (omega arith, (r .small, (r .down, (r .right, rw (c .before .side .ensures) (wide c))))))
 
 same-length : tie.Need-same-length
 same-length c = search needs
 
 returns-2 : tie.Need-returns-2
 returns-2 c =
-    let s = c .before .before .before .before .before .before .before .before .before .before .before in
     let k = c .before .before .before in
-    aligned-square (s .args .v) (s .args .t) _ _ _ _ _ _ (k .before .before .before .before .before .before .centre-count .ensures)
-    (sym (k .before .before .before .before .before .at-finder .ensures) ∙ k .before .before .before .before .if1 .left)
+    let n = counted k in
+    let tested = k .before .before .before .before in
+    aligned-square (start k .args .v) (start k .args .t) _ _ _ _ _ _ (n .centre-count .ensures)
+    (sym (tested .before .at-finder .ensures) ∙ tested .if1 .left)
     (k .before .before .before .centre .ensures) (k .before .before .centre2 .ensures) (k .before .side .ensures) (c .before .before .square .ensures)
 
 pub alignment-spec : {M : Type 1} → statement M

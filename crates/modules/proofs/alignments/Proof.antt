@@ -1,5 +1,4 @@
 -- `modules::alignments` meets its contract: the invariant: the patterns of the first t pairs are drawn.
--- Assumes nothing.
 use mathlib.Core.Path.{_≡_}
 use Prim.Native.Nat.{_-_, _≤_}
 use native.Mathlib.Nat.{le-antisymm}

@@ -1,5 +1,4 @@
 -- `modules::at_finder` meets its contract: the three tests of the definition, in their order.
--- Assumes nothing.
 use Prim.Native.Nat.{_+_, _*_}
 use native.Mathlib.Omega.{arith}
 use borrow.Author.Tests.{eq-eqb, ne-eqb}

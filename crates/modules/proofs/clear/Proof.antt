@@ -1,5 +1,4 @@
 -- `modules::clear` meets its contract: the invariant: the first p modules are data modules that are not filled.
--- Assumes nothing.
 use mathlib.Core.Path.{_≡_, refl, sym, ap, _∙_}
 use native.Mathlib.Numerals.{add-one}
 use borrow.Author.Needs.{needs}

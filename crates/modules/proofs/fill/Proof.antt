@@ -1,5 +1,4 @@
 -- `modules::fill` meets its contract: the invariant: the first q column pairs have taken their bits, over the version's kinds.
--- Assumes nothing.
 use mathlib.Core.Path.{_≡_, sym, _∙_}
 use Prim.Native.Nat.{_-_, _*_, _≤_}
 use native.Mathlib.Omega.{arith}
@@ -17,6 +16,10 @@ Inv-loop codewords base₀ v end used₀ q₀ base used q = (q ≤ end) × (fill
 abbrev μ-loop : tie.MeasureT-loop
 μ-loop codewords base₀ v end used₀ q₀ base used q = end - q
 
+-- the entry, from the loop's test
+abbrev start : tie.At-loop Inv-loop μ-loop → tie.Start Inv-loop μ-loop
+start c = c .before .before .before .before .before .before .before
+
 patterns-requires : tie.Need-patterns-requires Inv-loop μ-loop
 patterns-requires c κs = (omega arith, (omega arith, c .before .before .before .pre .1 .1))
 
@@ -31,16 +34,20 @@ loop-holds c = (omega arith, none-yet _ (omega arith) (omega arith) _ _ (c .befo
 
 pair-requires : tie.Need-pair-requires Inv-loop μ-loop
 pair-requires c κs =
-    let s = c .before .before .before .before .before .before .before .before .before in
-    let l = c .before .before .loop in (
+    let a = c .before .before in
+    let l = a .loop in
+    let v = start a .args .v in
+    let cs = start a .args .codewords .now in
+    let few = few-used _ _ (l .q * (2 * side v)) _ _ _ _ (l .inv .1) in
+    let long = kept-length _ _ (l .q * (2 * side v)) _ _ _ _ (l .inv .1) in (
       omega arith,
       (
         omega arith,
         (
           omega arith,
           (
-            omega (arith, few-used _ _ (l .q * (2 * side (s .args .v))) _ _ _ _ (l .inv .1), few-steps (s .args .v) (omega arith) (omega arith) (s .args .codewords .now) (l .q) (omega arith)),
-            omega (arith, kept-length _ _ (l .q * (2 * side (s .args .v))) _ _ _ _ (l .inv .1), kinds-length (s .args .v) (omega arith) (omega arith) (byteBits (s .args .codewords .now))),
+            omega (arith, few, few-steps v (omega arith) (omega arith) cs (l .q) (omega arith)),
+            omega (arith, long, kinds-length v (omega arith) (omega arith) (byteBits cs)),
           ),
         ),
       ),
@@ -54,18 +61,19 @@ loop-less c = omega arith
 
 loop-again : tie.Need-loop-again Inv-loop μ-loop
 loop-again c =
-    let s = c .before .before .before .before .before .before .before .before .before .before .before .before in
-    let l = c .before .before .before .before .before .loop in
+    let a = c .before .before .before .before .before in
+    let s = start a in
+    let l = a .loop in
     (omega arith, pair-more (s .args .v) (omega arith) (omega arith) (s .args .codewords .now) (l .q) _ _ _ _ (l .inv .1) (c .before .before .pair .ensures))
 
 same-length : tie.Need-same-length Inv-loop μ-loop
 same-length c =
-    let s = c .before .before .before .before .before .before .before .before in
+    let s = start (c .before) in
     kept-length _ _ _ _ _ _ _ (c .before .loop .inv .1) ∙ kinds-length (s .args .v) (omega arith) (omega arith) (byteBits (s .args .codewords .now)) ∙ sym (s .pre .1 .1)
 
 returns : tie.Need-returns Inv-loop μ-loop
 returns c =
-    let s = c .before .before .before .before .before .before .before .before in
+    let s = start (c .before) in
     let l = c .before .loop in
     laid-all (s .args .v) (omega arith) (omega arith) (s .args .codewords .now) (l .base) (l .used) (l .q) (omega arith) (l .inv .1)
 

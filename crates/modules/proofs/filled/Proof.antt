@@ -1,5 +1,4 @@
 -- `modules::filled` meets its contract: the bit of a codeword, and 0 past the last.
--- Assumes nothing.
 use Prim.Native.Nat.{ℕ, _+_}
 use mathlib.Core.Path.{sym, ap}
 use native.Mathlib.Omega.{arith}

@@ -1,5 +1,4 @@
 -- `modules::finders` meets its contract: three squares, one after the other.
--- Assumes nothing.
 use Rattle.modules.specs.Kinds.{findersOn}
 use borrow.Author.Needs.{needs}
 use Rattle.modules.proofs.finders.Statement.{statement}
@@ -25,7 +24,11 @@ same-length c = search needs
 
 returns : tie.Need-returns
 unfolding findersOn
-returns c = rw (c .before .before .square3 .ensures, c .before .before .before .before .before .before .square2 .ensures, c .before .before .before .before .before .before .before .before .before .before .square .ensures)
+returns c =
+    let third = c .before .before in
+    let second = third .before .before .before .before in
+    let first = second .before .before .before .before in
+    rw (third .square3 .ensures, second .square2 .ensures, first .square .ensures)
 
 pub finders-spec : {M : Type 1} → statement M
 finders-spec =

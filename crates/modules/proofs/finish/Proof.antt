@@ -1,5 +1,4 @@
 -- `modules::finish` meets its contract: the invariant: the first i rows are finished, and the rest is as it was.
--- Assumes nothing.
 use mathlib.Core.Path.{_≡_, sym, ap, _∙_}
 use mathlib.Core.List.{List, _++_}
 use Prim.Native.Nat.{ℕ, _+_, _-_, _*_, _≤_}
@@ -12,7 +11,7 @@ use Rattle.tables.specs.Tables.{side}
 use Rattle.words.specs.Words.{formatWord}
 use Rattle.words.proofs.Bits.{format-bits-lt}
 use Rattle.modules.specs.Kinds.{finished}
-use Rattle.modules.proofs.Stamps.{square-small, row-end}
+use Rattle.modules.proofs.Places.{square-small, row-end}
 use Rattle.modules.proofs.Tints.{finishAt, row-more, row-at, finished-build, front-length, part-le}
 use Rattle.modules.proofs.finish.Statement.{statement}
 use Rattle.modules.proofs.finish.Tie as tie
@@ -30,20 +29,45 @@ record Ends (i n base out : ℕ) : Type 0 where
   in-base : i * n + n ≤ base
   in-out : i * n + n ≤ out
 
-ends : (c : tie.In-loop Inv-loop μ-loop) → Ends (c .before .loop .i) (c .before .before .before .before .side .result) (length (c .before .before .before .before .before .before .before .args .base .now)) (length (c .before .loop .out))
+-- the entry, the side and the word, from the loop's test
+module _ (c : tie.At-loop Inv-loop μ-loop) where
+  abbrev worded : tie.After-format-word Inv-loop μ-loop
+  worded = c .before
+
+  abbrev sided : tie.After-side Inv-loop μ-loop
+  sided = worded .before .before
+
+  abbrev start : tie.Start Inv-loop μ-loop
+  start = sided .before .before .before
+
+  abbrev n : ℕ
+  n = sided .side .result
+
+  abbrev s : ℕ
+  s = side (start .args .v)
+
+  abbrev base : List ℕ
+  base = start .args .base .now
+
+  size : n * n ≡ s * s
+  size = ap (λ (n : ℕ). n * n) (sided .side .ensures)
+
+  room : n * n ≤ length (start .args .out .now)
+  room = rw size (start .pre .1 .1 .1 .1)
+
+ends : (c : tie.In-loop Inv-loop μ-loop) → Ends (c .before .loop .i) (n (c .before)) (length (base (c .before))) (length (c .before .loop .out))
 ends c =
-    let s = c .before .before .before .before .before .before .before in
-    let l = c .before .loop in
-    let n = c .before .before .before .before .side .result in
-    let small : n ≤ 57 = omega (arith, c .before .before .before .before .side .ensures, s .pre .0 .most) in
-    let row : l .i * n + n ≤ n * n = row-end n (l .i) (c .loop-test .taken) in
-    let size : n * n ≡ side (s .args .v) * side (s .args .v) = ap (λ (n : ℕ). n * n) (c .before .before .before .before .side .ensures) in
-    let room : n * n ≤ length (s .args .out .now) = rw size (s .pre .1 .1 .1 .1) in
+    let a = c .before in
+    let l = a .loop in
+    let small : n a ≤ 57 = omega (arith, sided a .side .ensures, start a .pre .0 .most) in
+    let row : l .i * n a + n a ≤ n a * n a = row-end (n a) (l .i) (c .loop-test .taken) in
+    let same : n a * n a ≡ s a * s a = size a in
+    let wide : n a * n a ≤ length (start a .args .out .now) = room a in
     record {
       small = small;
-      low = omega (arith, square-small n small);
-      in-base = omega (arith, s .pre .1 .1 .0);
-      in-out = omega (arith, front-length _ (l .i * n) _ (l .out) (l .inv .1) (omega arith));
+      low = omega (arith, square-small (n a) small);
+      in-base = omega (arith, start a .pre .1 .1 .0);
+      in-out = omega (arith, front-length _ (l .i * n a) _ (l .out) (l .inv .1) (omega arith));
     }
 
 side-requires : tie.Need-side-requires Inv-loop μ-loop
@@ -101,9 +125,15 @@ row-flips-requires c κs = (omega arith, omega (arith, ends (c .before .before))
 tint-row-requires : tie.Need-tint-row-requires Inv-loop μ-loop
 tint-row-requires c κs =
     let k = c .before .before .before in
-    let s = c .before .before .before .before .before .before .before .before .before .before in
+    let a = k .before in
     let e = ends k in
-    (length-part _ _ _ (e .in-out) ∙ sym (length-part _ _ _ (e .in-base)), (rw (length-part (s .args .base .now) (k .before .loop .i * k .before .before .before .before .side .result) (k .before .before .before .before .side .result) (e .in-base)) (e .small), part-le 18 _ _ _ (e .in-base) (s .pre .1 .1 .1 .0)))
+    let i = a .loop .i in (
+      length-part _ _ _ (e .in-out) ∙ sym (length-part _ _ _ (e .in-base)),
+      (
+        rw (length-part (base a) (i * n a) (n a) (e .in-base)) (e .small),
+        part-le 18 _ _ _ (e .in-base) (start a .pre .1 .1 .1 .0),
+      ),
+    )
 
 add-i : tie.Need-add-i Inv-loop μ-loop
 add-i c = omega arith
@@ -114,34 +144,32 @@ loop-less c = omega arith
 loop-again : tie.Need-loop-again Inv-loop μ-loop
 loop-again c =
     let k = c .before .before .before .before .before .before in
-    let s = c .before .before .before .before .before .before .before .before .before .before .before .before .before in
+    let a = k .before in
+    let args = start a .args in
     let e = ends k in
-    let i = k .before .loop .i in
-    let n = k .before .before .before .before .side .result in (
+    let i = a .loop .i in
+    let word = worded a .format-word .ensures ∙ ap formatWord (worded a .before .format-bits .ensures) in (
       omega arith,
-      row-more _ _ _ _ _ i n (k .before .loop .inv .1) (c .before .before .tint-row .ensures ∙ ap (build _) (length-part (s .args .base .now) (i * n) n (e .in-base)))
-          (λ j h. row-at (s .args .v) (s .args .level) (s .args .mask) (omega arith) (omega arith) (s .args .base .now) (s .pre .1 .1 .1 .0) n (k .before .before .before .before .side .ensures) (e .small) i _ _ j (k .loop-test .taken)
-          (k .before .before .format-word .ensures ∙ ap formatWord (k .before .before .before .format-bits .ensures)) (c .before .before .before .row-flips .ensures) h),
+      row-more _ _ _ _ _ i (n a) (a .loop .inv .1) (c .before .before .tint-row .ensures ∙ ap (build _) (length-part (base a) (i * n a) (n a) (e .in-base)))
+          (λ j h. row-at (args .v) (args .level) (args .mask) (omega arith) (omega arith) (base a) (start a .pre .1 .1 .1 .0) (n a)
+          (sided a .side .ensures) (e .small) i _ _ j (k .loop-test .taken) word (c .before .before .before .row-flips .ensures) h),
     )
 
 same-length : tie.Need-same-length Inv-loop μ-loop
 same-length c =
-    let s = c .before .before .before .before .before .before .before in
-    let l = c .before .loop in
-    let n = c .before .before .before .before .side .result in
-    let size : n * n ≡ side (s .args .v) * side (s .args .v) = ap (λ (n : ℕ). n * n) (c .before .before .before .before .side .ensures) in
-    let room : n * n ≤ length (s .args .out .now) = rw size (s .pre .1 .1 .1 .1) in
-    front-length _ (l .i * n) _ _ (l .inv .1) (le-trans (mul-le-mul-right n (l .inv .0)) room)
+    let a = c .before in
+    front-length _ (a .loop .i * n a) _ _ (a .loop .inv .1) (le-trans (mul-le-mul-right (n a) (a .loop .inv .0)) (room a))
 
 returns : tie.Need-returns Inv-loop μ-loop
 returns c =
-    let s = c .before .before .before .before .before .before .before in
-    let l = c .before .loop in
-    let n = c .before .before .before .before .side .result in
-    let done : l .i ≡ n = le-antisymm (l .inv .0) (c .loop-test .left) in
-    let size : l .i * n ≡ side (s .args .v) * side (s .args .v) = ap (λ (i : ℕ). i * n) done ∙ ap (λ (n : ℕ). n * n) (c .before .before .before .before .side .ensures) in
-    l .inv .1 ∙ ap (λ (xs : List ℕ). xs ++ drop (l .i * n) (s .args .out .now)) (finished-build (s .args .v) (s .args .level) (s .args .mask) (s .args .base .now) (l .i * n) size)
-    ∙ ap (λ (m : ℕ). finished (s .args .v) (s .args .level) (s .args .mask) (s .args .base .now) ++ drop m (s .args .out .now)) size
+    let a = c .before in
+    let l = a .loop in
+    let args = start a .args in
+    let out = args .out .now in
+    let done : l .i ≡ n a = le-antisymm (l .inv .0) (c .loop-test .left) in
+    let whole : l .i * n a ≡ s a * s a = ap (λ (i : ℕ). i * n a) done ∙ size a in
+    l .inv .1 ∙ ap (λ (xs : List ℕ). xs ++ drop (l .i * n a) out) (finished-build (args .v) (args .level) (args .mask) (base a) (l .i * n a) whole)
+    ∙ ap (λ (m : ℕ). finished (args .v) (args .level) (args .mask) (base a) ++ drop m out) whole
 
 pub finish-spec : {M : Type 1} → statement M
 finish-spec =

@@ -1,10 +1,9 @@
 -- `modules::format_place` meets its contract: one case of the definition for each answer.
--- Assumes nothing.
 use mathlib.Core.Path.{_≡_}
 use native.Mathlib.Omega.{arith}
 use borrow.Author.Tests.{eq-eqb, ne-eqb, le-leb, lt-leb}
 use Rattle.modules.specs.Modules.{formatOne, formatTwo}
-use Rattle.modules.proofs.Stamps.{format-first, format-second}
+use Rattle.modules.proofs.Places.{format-first, format-second}
 use borrow.Author.Needs.{needs}
 use Rattle.modules.proofs.format_place.Statement.{statement}
 use Rattle.modules.proofs.format_place.Tie as tie

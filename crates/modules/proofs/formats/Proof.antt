@@ -1,23 +1,23 @@
 -- `modules::formats` meets its contract: the invariant: t stores are made.
--- Assumes nothing.
 use mathlib.Core.Path.{_≡_, refl}
 use Prim.Native.Nat.{_-_, _/_, _%_, _≤_}
 use native.Mathlib.Nat.{le-antisymm}
 use native.Mathlib.Omega.{arith}
-use Rattle.modules.specs.Kinds.{stamped, formatPlace, formatValue}
+use Rattle.basics.specs.Walk.{walked}
+use Rattle.basics.proofs.Walk.{walked-none, walked-more, walked-made}
+use Rattle.modules.specs.Kinds.{formatPlace, formatValue}
 use Rattle.modules.proofs.Geometry.{word-places}
-use Rattle.modules.proofs.Stamps.{stamped-none, stamped-more, made-length}
 use Rattle.modules.proofs.formats.Statement.{statement}
 use Rattle.modules.proofs.formats.Tie as tie
 
 abbrev Inv-loop : tie.InvT-loop
-Inv-loop out₀ v t₀ out t = (t ≤ 30) × (out ≡ stamped (formatPlace v) formatValue t out₀)
+Inv-loop out₀ v t₀ out t = (t ≤ 30) × (out ≡ walked (formatPlace v) formatValue t out₀)
 
 abbrev μ-loop : tie.MeasureT-loop
 μ-loop out₀ v t₀ out t = 30 - t
 
 loop-holds : tie.Need-loop-holds Inv-loop μ-loop
-loop-holds c = (omega arith, stamped-none _ _ _)
+loop-holds c = (omega arith, walked-none _ _ _)
 
 format-place-requires : tie.Need-format-place-requires Inv-loop μ-loop
 format-place-requires c κs = (omega arith, (omega arith, (omega arith, omega arith)))
@@ -32,7 +32,7 @@ slice-write-out : tie.Need-slice-write-out Inv-loop μ-loop
 slice-write-out c =
     let l = c .before .before .loop in
     let v = c .before .before .before .before .args .v in
-    omega (arith, made-length _ _ (l .t) _ (l .out) (l .inv .1), c .format-place .ensures, word-places v (omega arith) (omega arith) .format-inside (l .t % 2) (l .t / 2) (omega arith) (omega arith))
+    omega (arith, walked-made _ _ _ (l .t) (l .out) (l .inv .1), c .format-place .ensures, word-places v (omega arith) (omega arith) .format-inside (l .t % 2) (l .t / 2) (omega arith) (omega arith))
 
 add-t : tie.Need-add-t Inv-loop μ-loop
 add-t c = omega arith
@@ -45,10 +45,10 @@ unfolding formatPlace formatValue
 loop-again c =
     let l = c .before .before .loop in
     let v = c .before .before .before .before .args .v in
-    (omega arith, stamped-more (formatPlace v) formatValue _ (l .out) (l .t) _ _ (l .inv .1) (c .format-place .ensures) refl)
+    (omega arith, walked-more (formatPlace v) formatValue _ (l .out) (l .t) _ _ (l .inv .1) (c .format-place .ensures) refl)
 
 same-length : tie.Need-same-length Inv-loop μ-loop
-same-length c = made-length _ _ _ _ _ (c .before .loop .inv .1)
+same-length c = walked-made _ _ _ _ _ (c .before .loop .inv .1)
 
 returns : tie.Need-returns Inv-loop μ-loop
 returns c = rw (le-antisymm (c .before .loop .inv .0) (c .loop-test .left)) at (c .before .loop .inv .1)

@@ -1,9 +1,8 @@
 -- `modules::frame` meets its contract: timing, alignment, format bits and one store, one after the other.
--- Assumes nothing.
 use mathlib.Core.Path.{_∙_}
 use native.Mathlib.Omega.{arith}
 use lib.ListN.{length-set}
-use Rattle.modules.specs.Kinds.{frameOn}
+use Rattle.modules.proofs.Centres.{frame-made}
 use borrow.Author.Needs.{needs}
 use Rattle.modules.proofs.frame.Statement.{statement}
 use Rattle.modules.proofs.frame.Tie as tie
@@ -26,34 +25,37 @@ sub-place c = search needs
 place-requires : tie.Need-place-requires
 place-requires c κs = search needs
 
+-- the points after each pattern, from the last store back to the side
+module _ (c : tie.After-place) where
+  abbrev formatted : tie.After-formats
+  formatted = c .before .before .before
+
+  abbrev aligned : tie.After-alignments
+  aligned = formatted .before .before .before .before
+
+  abbrev timed : tie.After-timing
+  timed = aligned .before .before .before .before
+
+  abbrev sided : tie.After-side
+  sided = timed .before .before
+
 slice-write-out : tie.Need-slice-write-out
 slice-write-out c =
-    let s = c .before .before .before .before .before .before .before .before .before .before .before .before .before in
     omega (
       arith,
-      c .before .before .before .formats .kept .0,
-      c .before .before .before .before .before .before .before .alignments .kept .0,
-      c .before .before .before .before .before .before .before .before .before .before .before .timing .kept .0,
-      rw (s .side .ensures) at (c .place .ensures .1),
-      s .before .before .pre .1 .1,
+      formatted c .formats .kept .0,
+      aligned c .alignments .kept .0,
+      timed c .timing .kept .0,
+      rw (sided c .side .ensures) at (c .place .ensures .1),
+      sided c .before .before .pre .1 .1,
     )
 
 same-length : tie.Need-same-length
-same-length c =
-    simp length-set (c .before .before .before .formats .kept .0 ∙ c .before .before .before .before .before .before .before .alignments .kept .0
-    ∙ c .before .before .before .before .before .before .before .before .before .before .before .timing .kept .0)
+same-length c = simp length-set (formatted c .formats .kept .0 ∙ aligned c .alignments .kept .0 ∙ timed c .timing .kept .0)
 
 returns : tie.Need-returns
-unfolding frameOn
 returns c =
-    let s = c .before .before .before .before .before .before .before .before .before .before .before .before .before in
-    rw (
-      c .before .before .before .formats .ensures,
-      c .before .before .before .before .before .before .before .alignments .ensures,
-      c .before .before .before .before .before .before .before .before .before .before .before .timing .ensures,
-      c .place .ensures .0,
-      s .side .ensures,
-    )
+    frame-made _ _ _ _ _ _ _ (sided c .side .ensures) (timed c .timing .ensures) (aligned c .alignments .ensures) (formatted c .formats .ensures) (c .place .ensures .0)
 
 pub frame-spec : {M : Type 1} → statement M
 frame-spec =

@@ -1,9 +1,8 @@
 -- `modules::lay` meets its contract: the front part is filled, and the rest is as it was.
--- Assumes nothing.
 use native.Mathlib.Nat.{sub-zero}
 use native.Mathlib.Omega.{arith}
 use lib.Seq.{length-take-le}
-use Rattle.modules.proofs.Stamps.{square-small}
+use Rattle.modules.proofs.Places.{square-small}
 use borrow.Author.Needs.{needs}
 use Rattle.modules.proofs.lay.Statement.{statement}
 use Rattle.modules.proofs.lay.Tie as tie

@@ -1,9 +1,9 @@
 -- `modules::pair` meets its contract: the invariant: 2t modules of the pair are met.
--- Assumes nothing.
 use mathlib.Core.Path.{_≡_, _∙_}
-use Prim.Native.Nat.{suc, _+_, _-_, _*_, _≤_, _<_}
+use Prim.Native.Nat.{ℕ, suc, _+_, _-_, _*_, _≤_, _<_}
 use native.Mathlib.Nat.{le-antisymm}
 use native.Mathlib.Omega.{arith}
+use lib.ListN.{length}
 use Rattle.basics.specs.Bits.{byteBits}
 use Rattle.tables.specs.Tables.{side}
 use Rattle.modules.specs.Kinds.{filling, putAll, pairPlace}
@@ -17,15 +17,47 @@ Inv-loop codewords base₀ v q n s right used₀ t₀ base used t = (t ≤ s) ×
 abbrev μ-loop : tie.MeasureT-loop
 μ-loop codewords base₀ v q n s right used₀ t₀ base used t = s - t
 
-first : (c : tie.After-place Inv-loop μ-loop) → c .place .result ≡ pairPlace (side (c .before .before .before .before .before .before .before .before .args .v)) (c .before .before .before .before .before .before .before .before .args .q) (2 * c .before .before .before .loop .t)
-first c =
-    first-place (c .before .before .before .before .before .before .before .before .args .v) (c .before .before .before .before .before .before .before .before .args .q) (c .before .before .before .loop .t) _ _ _ _ (c .before .before .before .before .before .side .ensures) (c .before .before .loop-test .taken)
-    (c .before .pair-row .ensures .0) (c .before .before .before .before .pair-column .ensures .0) (c .place .ensures .0)
+-- the entry, the column and the side, from the loop's test
+module _ (c : tie.At-loop Inv-loop μ-loop) where
+  abbrev column : tie.After-pair-column Inv-loop μ-loop
+  column = c .before
 
-second : (c : tie.After-place Inv-loop μ-loop) → c .place .result - 1 ≡ pairPlace (side (c .before .before .before .before .before .before .before .before .args .v)) (c .before .before .before .before .before .before .before .before .args .q) (suc (2 * c .before .before .before .loop .t))
-second c =
-    second-place (c .before .before .before .before .before .before .before .before .args .v) (c .before .before .before .before .before .before .before .before .args .q) (c .before .before .before .loop .t) _ _ _ _ (c .before .before .before .before .before .side .ensures) (c .before .before .loop-test .taken)
-    (c .before .pair-row .ensures .0) (c .before .before .before .before .pair-column .ensures .0) (c .place .ensures .0) (c .before .before .before .before .pair-column .ensures .1 .0)
+  abbrev sided : tie.After-side Inv-loop μ-loop
+  sided = column .before
+
+  abbrev start : tie.Start Inv-loop μ-loop
+  start = sided .before .before .before
+
+  abbrev s : ℕ
+  s = side (start .args .v)
+
+-- the modules of this turn: the right one, and the left one beside it
+module _ (c : tie.After-place Inv-loop μ-loop) where
+  abbrev here : tie.At-loop Inv-loop μ-loop
+  here = c .before .before .before
+
+  abbrev t : ℕ
+  t = here .loop .t
+
+  first : c .place .result ≡ pairPlace (s here) (start here .args .q) (2 * t)
+  first =
+      first-place (start here .args .v) (start here .args .q) t _ _ _ _ (sided here .side .ensures) (c .before .before .loop-test .taken)
+      (c .before .pair-row .ensures .0) (column here .pair-column .ensures .0) (c .place .ensures .0)
+
+  second : c .place .result - 1 ≡ pairPlace (s here) (start here .args .q) (suc (2 * t))
+  second =
+      second-place (start here .args .v) (start here .args .q) t _ _ _ _ (sided here .side .ensures) (c .before .before .loop-test .taken)
+      (c .before .pair-row .ensures .0) (column here .pair-column .ensures .0) (c .place .ensures .0) (column here .pair-column .ensures .1 .0)
+
+  in-matrix : c .place .result < s here * s here
+  in-matrix = rw (sided here .side .ensures) at (c .place .ensures .1)
+
+  -- the bits used so far, and those that there is room for
+  few : here .loop .used ≤ start here .args .n + 2 * t
+  few = few-used _ _ (2 * t) _ _ _ _ (here .loop .inv .1)
+
+  long : length (here .loop .base) ≡ length (start here .args .base .now)
+  long = kept-length _ _ (2 * t) _ _ _ _ (here .loop .inv .1)
 
 side-requires : tie.Need-side-requires Inv-loop μ-loop
 side-requires c κs = omega arith
@@ -45,24 +77,24 @@ place-requires c κs =
 
 put-requires : tie.Need-put-requires Inv-loop μ-loop
 put-requires c κs =
-    let s = c .before .before .before .before .before .before .before .before .before in
-    let l = c .before .before .before .before .loop in
-    let inside : c .before .place .result < side (s .args .v) * side (s .args .v) = rw (c .before .before .before .before .before .before .side .ensures) at (c .before .place .ensures .1) in (
-      omega (arith, inside, s .pre .1 .1 .1 .1, kept-length _ _ (2 * l .t) _ _ _ _ (l .inv .1)),
-      omega (arith, few-used _ _ (2 * l .t) _ _ _ _ (l .inv .1), c .before .before .before .before .before .before .side .ensures, s .pre .1 .1 .1 .0),
+    let p = c .before in
+    let a = here p in (
+      omega (arith, in-matrix p, start a .pre .1 .1 .1 .1, long p),
+      omega (arith, few p, sided a .side .ensures, start a .pre .1 .1 .1 .0),
     )
 
 sub-put : tie.Need-sub-put Inv-loop μ-loop
-sub-put c = omega (arith, c .before .before .before .before .before .place .ensures .0, c .before .before .before .before .before .before .before .before .before .pair-column .ensures .1 .0)
+sub-put c =
+    let p = c .before .before .before .before .before in
+    omega (arith, p .place .ensures .0, column (here p) .pair-column .ensures .1 .0)
 
 put-requires-2 : tie.Need-put-requires-2 Inv-loop μ-loop
 put-requires-2 c κs =
-    let s = c .before .before .before .before .before .before .before .before .before .before .before .before .before in
-    let l = c .before .before .before .before .before .before .before .before .loop in
-    let inside : c .before .before .before .before .before .place .result < side (s .args .v) * side (s .args .v) = rw (c .before .before .before .before .before .before .before .before .before .before .side .ensures) at (c .before .before .before .before .before .place .ensures .1) in
-    let one = put-more _ _ _ _ _ (2 * l .t) _ (l .inv .1) (first (c .before .before .before .before .before)) (c .before .before .before .put .ensures) in (
-      omega (arith, inside, s .pre .1 .1 .1 .1, kept-length _ _ (suc (2 * l .t)) _ _ _ _ one),
-      omega (arith, few-used _ _ (suc (2 * l .t)) _ _ _ _ one, c .before .before .before .before .before .before .before .before .before .before .side .ensures, s .pre .1 .1 .1 .0),
+    let p = c .before .before .before .before .before in
+    let a = here p in
+    let one = put-more _ _ _ _ _ (2 * t p) _ (a .loop .inv .1) (first p) (c .before .before .before .put .ensures) in (
+      omega (arith, in-matrix p, start a .pre .1 .1 .1 .1, kept-length _ _ (suc (2 * t p)) _ _ _ _ one),
+      omega (arith, few-used _ _ (suc (2 * t p)) _ _ _ _ one, sided a .side .ensures, start a .pre .1 .1 .1 .0),
     )
 
 add-t : tie.Need-add-t Inv-loop μ-loop
@@ -73,9 +105,11 @@ loop-less c = omega arith
 
 loop-again : tie.Need-loop-again Inv-loop μ-loop
 loop-again c =
-    let l = c .before .before .before .before .before .before .before .before .before .before .before .loop in
-    let one = put-more _ _ _ _ _ (2 * l .t) _ (l .inv .1) (first (c .before .before .before .before .before .before .before .before)) (c .before .before .before .before .before .before .put .ensures) in
-    let two = put-more _ _ _ _ _ (suc (2 * l .t)) _ one (second (c .before .before .before .before .before .before .before .before)) (c .before .before .put2 .ensures) in
+    let put₁ = c .before .before .before .before .before .before in
+    let p = put₁ .before .before in
+    let l = here p .loop in
+    let one = put-more _ _ _ _ _ (2 * l .t) _ (l .inv .1) (first p) (put₁ .put .ensures) in
+    let two = put-more _ _ _ _ _ (suc (2 * l .t)) _ one (second p) (c .before .before .put2 .ensures) in
     let count : suc (suc (2 * l .t)) ≡ 2 * (l .t + 1) = omega arith in
     (omega arith, rw count at two)
 
@@ -84,8 +118,9 @@ same-length c = kept-length _ _ _ _ _ _ _ (c .before .loop .inv .1)
 
 returns : tie.Need-returns Inv-loop μ-loop
 returns c =
-    let l = c .before .loop in
-    let end : l .t ≡ side (c .before .before .before .before .before .before .args .v) = le-antisymm (l .inv .0) (c .loop-test .left) ∙ c .before .before .before .side .ensures in
+    let a = c .before in
+    let l = a .loop in
+    let end : l .t ≡ s a = le-antisymm (l .inv .0) (c .loop-test .left) ∙ sided a .side .ensures in
     rw end at (l .inv .1)
 
 pub pair-spec : {M : Type 1} → statement M

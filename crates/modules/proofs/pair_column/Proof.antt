@@ -1,5 +1,4 @@
 -- `modules::pair_column` meets its contract: column 6 is skipped, since the columns from the right are even.
--- Assumes nothing.
 use Prim.Native.Nat.{_-_, _*_, _≤_}
 use native.Mathlib.Omega.{arith}
 use borrow.Author.Tests.{le-leb, lt-leb}

@@ -1,5 +1,4 @@
 -- `modules::pair_row` meets its contract: upward where the pair's number is even.
--- Assumes nothing.
 use Prim.Native.Nat.{_%_}
 use native.Mathlib.Omega.{arith}
 use borrow.Author.Tests.{eq-eqb, ne-eqb}

@@ -1,10 +1,21 @@
 -- `modules::patterns` meets its contract: what is drawn is what the computed test compares with the version's kinds.
--- Assumes nothing.
+use mathlib.Core.Path.{_∙_}
 use native.Mathlib.Omega.{arith}
-use Rattle.modules.proofs.Drawn.{below7, from7, below-drawn, from-drawn}
+use Rattle.modules.proofs.Drawn.{below-made, from-made, below-drawn, from-drawn}
 use borrow.Author.Needs.{needs}
 use Rattle.modules.proofs.patterns.Statement.{statement}
 use Rattle.modules.proofs.patterns.Tie as tie
+
+-- the points from which the later needs look back: the finders drawn, the matrix cleared, the entry
+module _ (c : tie.After-frame) where
+  abbrev found : tie.After-finders
+  found = c .before .before .before .before
+
+  abbrev cleared : tie.After-clear
+  cleared = found .before .before .before .before .before
+
+  abbrev start : tie.Start
+  start = cleared .before .before .before
 
 clear-requires : tie.Need-clear-requires
 clear-requires c κs = search needs
@@ -24,11 +35,10 @@ same-length : tie.Need-same-length
 same-length c = search needs
 
 returns : tie.Need-returns
-unfolding below7
 returns c =
-    let s = c .before .before .before .before .before .before .before .before .before .before .before .before .before .before .before in
-    rw (c .before .before .before .frame .ensures, c .before .before .before .before .before .before .before .finders .ensures, c .before .before .before .before .before .before .before .before .before .before .before .before .clear .ensures, c .before .before .before .before .before .before .before .before .side .ensures, s .pre .1 .1)
-    (below-drawn (s .args .v) (omega arith) (omega arith))
+    let f = c .before .before .before in
+    below-made _ _ _ _ _ _ (start f .pre .1 .1) (cleared f .clear .ensures) (found f .before .side .ensures) (found f .finders .ensures) (f .frame .ensures)
+    ∙ below-drawn (start f .args .v) (omega arith) (omega arith)
 
 cast-version-word : tie.Need-cast-version-word
 cast-version-word c = search needs
@@ -46,11 +56,13 @@ same-length-2 : tie.Need-same-length-2
 same-length-2 c = search needs
 
 returns-2 : tie.Need-returns-2
-unfolding below7 from7
 returns-2 c =
-    let s = c .before .before .before .before .before .before .before .before .before .before .before .before .before .before .before .before .before .before .before .before in
-    rw (c .before .before .versions .ensures, c .before .before .before .version-word .ensures, c .before .before .before .before .before .before .before .before .frame .ensures, c .before .before .before .before .before .before .before .before .before .before .before .before .finders .ensures, c .before .before .before .before .before .before .before .before .before .before .before .before .before .before .before .before .before .clear .ensures, c .before .before .before .before .before .before .before .before .before .before .before .before .before .side .ensures, s .pre .1 .1)
-    (from-drawn (s .args .v) (omega arith) (omega arith))
+    let w = c .before .before in
+    let f = w .before .before .before .before .before .before in
+    from-made _ _ _ _
+    (below-made _ _ _ _ _ _ (start f .pre .1 .1) (cleared f .clear .ensures) (found f .before .side .ensures) (found f .finders .ensures) (f .frame .ensures))
+    (w .before .version-word .ensures) (w .versions .ensures)
+    ∙ from-drawn (start f .args .v) (omega arith) (start f .pre .1 .0)
 
 pub patterns-spec : {M : Type 1} → statement M
 patterns-spec =

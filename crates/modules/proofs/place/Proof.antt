@@ -1,7 +1,6 @@
 -- `modules::place` meets its contract: a row and a column below the side make a place below its square.
--- Assumes nothing.
 use native.Mathlib.Omega.{arith}
-use Rattle.modules.proofs.Stamps.{square-small, place-lt}
+use Rattle.modules.proofs.Places.{square-small, place-lt}
 use mathlib.Core.Path.{refl}
 use Rattle.modules.proofs.place.Statement.{statement}
 use Rattle.modules.proofs.place.Tie as tie

@@ -1,5 +1,4 @@
 -- `modules::put` meets its contract: a data module takes the next bit; any other is left.
--- Assumes nothing.
 use lib.ListN.{getD}
 use borrow.Author.Tests.{eq-eqb, ne-eqb}
 use Rattle.modules.specs.Kinds.{put}

@@ -1,5 +1,4 @@
 -- `modules::row_flips` meets its contract: one computed test over every mask and row.
--- Assumes nothing.
 use mathlib.Core.Path.{ap, _∙_}
 use mathlib.Core.List.{List, [], _∷_}
 use Prim.Native.Nat.{ℕ, _*_, _%_, _≤_, _<_}

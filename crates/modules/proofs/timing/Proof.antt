@@ -1,16 +1,16 @@
 -- `modules::timing` meets its contract: the invariant: t stores are made.
--- Assumes nothing.
 use mathlib.Core.Path.{_≡_}
 use Prim.Native.Nat.{_-_, _≤_}
 use native.Mathlib.Nat.{le-antisymm}
 use native.Mathlib.Omega.{arith}
-use Rattle.modules.specs.Kinds.{stamped, timingPlace, timingValue}
-use Rattle.modules.proofs.Stamps.{stamped-none, stamped-more, made-length}
+use Rattle.basics.specs.Walk.{walked}
+use Rattle.basics.proofs.Walk.{walked-none, walked-more, walked-made}
+use Rattle.modules.specs.Kinds.{timingPlace, timingValue}
 use Rattle.modules.proofs.timing.Statement.{statement}
 use Rattle.modules.proofs.timing.Tie as tie
 
 abbrev Inv-loop : tie.InvT-loop
-Inv-loop out₀ s n t₀ out t = (t ≤ n) × (out ≡ stamped (timingPlace s) timingValue t out₀)
+Inv-loop out₀ s n t₀ out t = (t ≤ n) × (out ≡ walked (timingPlace s) timingValue t out₀)
 
 abbrev μ-loop : tie.MeasureT-loop
 μ-loop out₀ s n t₀ out t = n - t
@@ -22,7 +22,7 @@ mul-n : tie.Need-mul-n Inv-loop μ-loop
 mul-n c = omega arith
 
 loop-holds : tie.Need-loop-holds Inv-loop μ-loop
-loop-holds c = (omega arith, stamped-none _ _ _)
+loop-holds c = (omega arith, walked-none _ _ _)
 
 timing-place-requires : tie.Need-timing-place-requires Inv-loop μ-loop
 timing-place-requires c κs = (omega arith, (omega arith, omega arith))
@@ -33,7 +33,7 @@ bit-of-requires c κs = omega arith
 slice-write-out : tie.Need-slice-write-out Inv-loop μ-loop
 slice-write-out c =
     let l = c .before .before .before .loop in
-    omega (arith, made-length _ _ (l .t) _ (l .out) (l .inv .1), c .before .timing-place .ensures .1)
+    omega (arith, walked-made _ _ _ (l .t) (l .out) (l .inv .1), c .before .timing-place .ensures .1)
 
 add-t : tie.Need-add-t Inv-loop μ-loop
 add-t c = omega arith
@@ -45,10 +45,10 @@ loop-again : tie.Need-loop-again Inv-loop μ-loop
 unfolding timingValue
 loop-again c =
     let l = c .before .before .before .loop in
-    (omega arith, stamped-more _ timingValue _ (l .out) (l .t) _ _ (l .inv .1) (c .before .timing-place .ensures .0) (c .bit-of .ensures))
+    (omega arith, walked-more _ timingValue _ (l .out) (l .t) _ _ (l .inv .1) (c .before .timing-place .ensures .0) (c .bit-of .ensures))
 
 same-length : tie.Need-same-length Inv-loop μ-loop
-same-length c = made-length _ _ _ _ _ (c .before .loop .inv .1)
+same-length c = walked-made _ _ _ _ _ (c .before .loop .inv .1)
 
 returns : tie.Need-returns Inv-loop μ-loop
 returns c = rw (le-antisymm (c .before .loop .inv .0) (c .loop-test .left)) at (c .before .loop .inv .1)

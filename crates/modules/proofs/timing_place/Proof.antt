@@ -1,5 +1,4 @@
 -- `modules::timing_place` meets its contract: row and column in turn.
--- Assumes nothing.
 use Prim.Native.Nat.{_%_}
 use native.Mathlib.Omega.{arith}
 use borrow.Author.Tests.{eq-eqb, ne-eqb}

@@ -1,5 +1,4 @@
 -- `modules::tint` meets its contract: the bit of one word or of the other.
--- Assumes nothing.
 use mathlib.Core.Path.{sym, _∙_}
 use Rattle.basics.specs.Bits.{bitOf}
 use borrow.Author.Tests.{eq-eqb, ne-eqb}

@@ -1,5 +1,4 @@
 -- `modules::tint_row` meets its contract: the invariant: the first j colours are written.
--- Assumes nothing.
 use mathlib.Core.Path.{_≡_, refl, _∙_}
 use Prim.Native.Nat.{_-_, _≤_}
 use native.Mathlib.Nat.{le-antisymm}

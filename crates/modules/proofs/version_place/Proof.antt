@@ -1,8 +1,7 @@
 -- `modules::version_place` meets its contract: the definition's place, or the transposed one.
--- Assumes nothing.
 use native.Mathlib.Omega.{arith}
 use Rattle.modules.specs.Modules.{versionOne, versionTwo}
-use Rattle.modules.proofs.Stamps.{version-first, version-second}
+use Rattle.modules.proofs.Places.{version-first, version-second}
 use borrow.Author.Needs.{needs}
 use Rattle.modules.proofs.version_place.Statement.{statement}
 use Rattle.modules.proofs.version_place.Tie as tie

@@ -1,5 +1,4 @@
 -- `outside::attempt` is safe: the size is that of a part of the buffer.
--- Assumes nothing.
 use mathlib.Core.Path.{sym}
 use native.Mathlib.Omega.{arith}
 use lib.Seq.{length-take-le}

@@ -1,5 +1,4 @@
 -- `outside::front_same` is safe: the front is within the slice.
--- Assumes nothing.
 use mathlib.Core.Path.{sym}
 use lib.Seq.{length-take-le}
 use borrow.Author.Needs.{needs}

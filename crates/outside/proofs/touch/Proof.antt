@@ -1,5 +1,4 @@
 -- `outside::touch` is safe: a place outside the symbol is passed over.
--- Assumes nothing.
 use Prim.Native.Nat.{_-_, _≤_}
 use mathlib.Core.Path.{_≡_}
 use lib.ListN.{length}

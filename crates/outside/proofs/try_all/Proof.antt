@@ -1,5 +1,4 @@
 -- `outside::try_all` is safe: each turn looks at one symbol of the file.
--- Assumes nothing.
 use Prim.Native.Nat.{_-_, _≤_}
 use lib.ListN.{length}
 use borrow.Author.Needs.{needs}
@@ -7,10 +6,10 @@ use Rattle.outside.proofs.try_all.Statement.{statement}
 use Rattle.outside.proofs.try_all.Tie as tie
 
 abbrev Inv-loop : tie.InvT-loop
-Inv-loop file at₀ turn₀ at turn = (turn ≤ 20) × (at ≤ length file)
+Inv-loop file at₀ turn₀ at turn = (turn ≤ 40) × (at ≤ length file)
 
 abbrev μ-loop : tie.MeasureT-loop
-μ-loop file at₀ turn₀ at turn = 20 - turn
+μ-loop file at₀ turn₀ at turn = 40 - turn
 
 loop-holds : tie.Need-loop-holds Inv-loop μ-loop
 loop-holds c = search needs

@@ -1,5 +1,4 @@
 -- `panel::kqs_write` meets its contract: the writer's answer, as the numbers that the paper names.
--- Assumes nothing.
 use Rattle.panel.proofs.Entries.{as-asked, drawn, refused}
 use borrow.Author.Needs.{needs}
 use Rattle.panel.proofs.kqs_write.Statement.{statement}
@@ -31,14 +30,20 @@ same-length c = search needs
 
 returns : tie.Need-returns
 returns c =
-    as-asked _ _ _ _ _ _ _ _ _ _ _ (c .before .before .before .before .before .before .before .before .before .before .wide .ensures) (c .before .before .before .before .before .before .before .before .before .wide2 .ensures) (c .before .before .before .before .before .before .before .before .wide3 .ensures) (refused _ _ _ _ (c .before .before .before .before .before .before .write .ensures) _ _ (c .before .before .k .given .1) (c .number .ensures))
+    let w = c .before .before .before .before .before .before in
+    let n = w .before .before in
+    as-asked _ _ _ _ _ _ _ _ _ _ _ (n .before .before .wide .ensures) (n .before .wide2 .ensures) (n .wide3 .ensures)
+    (refused _ _ _ _ (w .write .ensures) _ _ (c .before .before .k .given .1) (c .number .ensures))
 
 same-length-2 : tie.Need-same-length-2
 same-length-2 c = search needs
 
 returns-2 : tie.Need-returns-2
 returns-2 c =
-    as-asked _ _ _ _ _ _ _ _ _ _ _ (c .before .before .before .before .before .before .before .before .before .wide .ensures) (c .before .before .before .before .before .before .before .before .wide2 .ensures) (c .before .before .before .before .before .before .before .wide3 .ensures) (drawn _ _ _ _ (c .before .before .before .before .before .write .ensures) _ (c .before .s .given .1))
+    let w = c .before .before .before .before .before in
+    let n = w .before .before in
+    as-asked _ _ _ _ _ _ _ _ _ _ _ (n .before .before .wide .ensures) (n .before .wide2 .ensures) (n .wide3 .ensures)
+    (drawn _ _ _ _ (w .write .ensures) _ (c .before .s .given .1))
 
 pub kqs-write-spec : {M : Type 1} → statement M
 kqs-write-spec =

@@ -1,5 +1,4 @@
 -- `parse::character` meets its contract: the table is the alphabet.
--- Assumes nothing.
 use mathlib.Core.Path.{refl}
 use borrow.Author.Needs.{needs}
 use Rattle.stream.specs.Stream.{character, alphabet}

@@ -1,5 +1,4 @@
 -- `parse::copy_bytes` meets its contract.
--- Assumes nothing.
 use Prim.Native.Nat.{_-_}
 use native.Mathlib.Omega.{arith}
 use lib.ListN.{length}

@@ -1,5 +1,4 @@
 -- `parse::next_group` meets its contract: it takes the definition's cases in their order.
--- Assumes nothing.
 use borrow.Author.Tests.{eq-eqb, ne-eqb, le-leb, lt-leb}
 use Rattle.parse.specs.Groups.{groupOf}
 use Rattle.parse.proofs.next_group.Statement.{statement}

@@ -1,5 +1,4 @@
 -- `parse::put_group` meets its contract: each size and mode as the definition has it.
--- Assumes nothing.
 use mathlib.Core.Path.{_≡_}
 use native.Mathlib.Omega.{arith}
 use borrow.Author.Needs.{needs}

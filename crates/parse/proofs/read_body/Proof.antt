@@ -1,5 +1,4 @@
 -- `parse::read_body` meets its contract. The invariant: what is written and what is left make the body.
--- Assumes nothing.
 use mathlib.Core.Path.{_≡_, _∙_}
 use Prim.Native.Nat.{_-_}
 use native.Mathlib.Omega.{arith}
@@ -10,11 +9,11 @@ use Rattle.parse.proofs.read_body.Statement.{statement}
 use Rattle.parse.proofs.read_body.Tie as tie
 
 abbrev Inv-loop : tie.InvT-loop
-Inv-loop codewords mode count payload₀ used at₀ done₀ payload at done =
-    Along codewords mode count used at₀ payload₀ payload at done
+Inv-loop codewords mode count payload₀ used cursor₀ done₀ payload cursor done =
+    Along codewords mode count used (cursor₀ .at) payload₀ payload (cursor .at) done
 
 abbrev μ-loop : tie.MeasureT-loop
-μ-loop codewords mode count payload₀ used at₀ done₀ payload at done = count - done
+μ-loop codewords mode count payload₀ used cursor₀ done₀ payload cursor done = count - done
 
 loop-holds : tie.Need-loop-holds Inv-loop μ-loop
 loop-holds c = along-none _ _ _ _ _ _
@@ -25,14 +24,21 @@ sub-next-group c = omega arith
 next-group-requires : tie.Need-next-group-requires Inv-loop μ-loop
 next-group-requires c κs = search needs
 
--- what is known of the next group
-turn-of : (c : tie.After-next-group Inv-loop μ-loop)
-    → let a = c .before .before .before .before .before .args in
-    let l = c .before .before .loop in
-    Turn (a .codewords .now) (a .mode) (a .count) (a .used) (a .from .at) (a .payload .now) (l .payload) (l .at) (l .done) (c .next-group .result)
-turn-of c =
-    turn _ _ _ _ _ _ _ _ _ (c .before .before .loop .inv) (c .before .before .before .before .before .pre .knows) (c .before .loop-test .taken) (c .next-group .result)
-    (c .next-group .ensures)
+-- the turn, once its group is known
+module _ (c : tie.After-next-group Inv-loop μ-loop) where
+  abbrev start : tie.Start Inv-loop μ-loop
+  start = c .before .before .before .before .before
+
+  abbrev here : tie.At-loop Inv-loop μ-loop
+  here = c .before .before
+
+  abbrev a : Along (start .args .codewords .now) (start .args .mode) (start .args .count) (start .args .used) (start .args .from .at)
+      (start .args .payload .now) (here .loop .payload) (here .loop .cursor .at) (here .loop .done)
+  a = here .loop .inv
+
+  turn-of : Turn (start .args .codewords .now) (start .args .mode) (start .args .count) (start .args .used) (start .args .from .at)
+      (start .args .payload .now) (here .loop .payload) (here .loop .cursor .at) (here .loop .done) (c .next-group .result)
+  turn-of = turn _ _ _ _ _ _ _ _ _ a (start .pre .knows) (c .before .loop-test .taken) (c .next-group .result) (c .next-group .ensures)
 
 take-requires : tie.Need-take-requires Inv-loop μ-loop
 take-requires c κs = let t = turn-of c in (t .narrow, (omega arith, omega (arith, t .holds)))
@@ -40,38 +46,52 @@ take-requires c κs = let t = turn-of c in (t .narrow, (omega arith, omega (arit
 wide-requires : tie.Need-wide-requires Inv-loop μ-loop
 wide-requires c κs = search needs
 
--- the group's number
-value-of : (c : tie.After-wide Inv-loop μ-loop)
-    → c .wide .result ≡ field (c .before .before .before .before .before .before .before .args .codewords .now) (c .before .before .before .before .loop .at) (c .before .before .next-group .result .width)
-value-of c = c .wide .ensures ∙ c .before .take .ensures .0
+-- .. and its number
+module _ (c : tie.After-wide Inv-loop μ-loop) where
+  abbrev g : tie.After-next-group Inv-loop μ-loop
+  g = c .before .before
+
+  value-of : c .wide .result ≡ field (start g .args .codewords .now) (here g .loop .cursor .at) (g .next-group .result .width)
+  value-of = c .wide .ensures ∙ c .before .take .ensures .0
 
 same-length : tie.Need-same-length Inv-loop μ-loop
-same-length c = c .before .before .before .before .before .before .loop .inv .long
+same-length c = a (g (c .before .before)) .long
 
 returns : tie.Need-returns Inv-loop μ-loop
-returns c = turn-of (c .before .before .before .before) .broken (omega (arith, value-of (c .before .before), c .if1 .taken))
+returns c = let w = c .before .before in turn-of (g w) .broken (omega (arith, value-of w, c .if1 .taken))
+
+-- .. which is in range
+module _ (c : tie.Else1 Inv-loop μ-loop) where
+  abbrev w : tie.After-wide Inv-loop μ-loop
+  w = c .before .before
 
 add-put-group : tie.Need-add-put-group Inv-loop μ-loop
-add-put-group c = omega (arith, c .before .before .before .before .before .before .before .loop .inv .long)
+add-put-group c = omega (arith, a (g (w (c .before))) .long)
 
 put-group-requires : tie.Need-put-group-requires Inv-loop μ-loop
-put-group-requires c κs = let t = turn-of (c .before .before .before .before .before) in (t .inside _ (c .before .if1 .left), omega (arith, t .most, c .before .before .before .before .before .before .before .loop .inv .long))
+put-group-requires c κs =
+    let k = g (w (c .before)) in
+    (turn-of k .inside _ (c .before .if1 .left), omega (arith, turn-of k .most, a k .long))
 
-add-at : tie.Need-add-at Inv-loop μ-loop
-add-at c = omega (arith, turn-of (c .before .before .before .before .before .before .before .before .before) .holds)
+-- the turn at its end: the group's characters are written
+module _ (c : tie.After-cursor Inv-loop μ-loop) where
+  abbrev put : tie.After-put-group Inv-loop μ-loop
+  put = c .before .before .before
+
+  abbrev k : tie.After-wide Inv-loop μ-loop
+  k = w (put .before .before)
 
 add-done : tie.Need-add-done Inv-loop μ-loop
-add-done c = omega (arith, turn-of (c .before .before .before .before .before .before .before .before .before .before) .most)
+add-done c = omega (arith, turn-of (g (k (c .before))) .most)
 
 loop-less : tie.Need-loop-less Inv-loop μ-loop
-loop-less c = let t = turn-of (c .before .before .before .before .before .before .before .before .before .before) in omega (arith, t .least, t .most)
+loop-less c = let t = turn-of (g (k (c .before))) in omega (arith, t .least, t .most)
 
 loop-again : tie.Need-loop-again Inv-loop μ-loop
 loop-again c =
-    let b = c .before .before .before .before in
-    let w = b .before .before .before .before in
-    turn-of (w .before .before) .further _ (b .put-group .kept .0) (omega (arith, value-of w, b .before .before .if1 .left))
-    (rw (value-of w) at (b .put-group .ensures))
+    let p = put (c .before) in
+    let v = k (c .before) in
+    turn-of (g v) .further _ _ _ (p .put-group .kept .0) (v .before .take .ensures .1) (value-of v) (p .before .before .if1 .left) (p .put-group .ensures)
 
 same-length-2 : tie.Need-same-length-2 Inv-loop μ-loop
 same-length-2 c = c .before .loop .inv .long
@@ -94,7 +114,6 @@ read-body-spec =
     returns
     add-put-group
     put-group-requires
-    add-at
     add-done
     loop-less
     loop-again

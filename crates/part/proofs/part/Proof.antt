@@ -1,5 +1,4 @@
 -- `part::part` meets its contract: a place ends within the payload.
--- Assumes nothing.
 use Prim.Native.Nat.{_+_, _-_, _≤_}
 use native.Mathlib.Nat.{add-sub-cancel-left}
 use lib.ListN.{length}

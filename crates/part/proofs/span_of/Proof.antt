@@ -1,5 +1,4 @@
 -- `part::span_of` meets its contract. The invariant: `start` is the sum of the counts passed, and is within the payload. Each answer is one law.
--- Assumes nothing.
 use mathlib.Core.Path.{_≡_, refl, sym, ap, _∙_}
 use Prim.Native.Nat.{suc, _-_, _/_, _%_, _≤_, _<_}
 use native.Mathlib.Omega.{arith}

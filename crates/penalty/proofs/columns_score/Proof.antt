@@ -1,5 +1,4 @@
 -- `penalty::columns_score` meets its contract: `columns-counted`.
--- Assumes nothing.
 use Prim.Native.Nat.{ℕ, _+_, _*_, _-_, _≤_}
 use native.Mathlib.Nat.{mul-le-mul}
 use native.Mathlib.Omega.{arith}

@@ -1,5 +1,4 @@
 -- `penalty::copy_line` meets its contract. The invariant: the first k modules are copied.
--- Assumes nothing.
 use mathlib.Core.Path.{_≡_, refl, _∙_}
 use Prim.Native.Nat.{_+_, _*_, _-_, _≤_}
 use native.Mathlib.Nat.{le-antisymm}

@@ -1,5 +1,4 @@
 -- `penalty::equal` meets its contract. The invariant: what is left decides.
--- Assumes nothing.
 use mathlib.Core.Path.{_≡_, refl, sym, _∙_}
 use mathlib.Core.Bool.{_&&_}
 use mathlib.Core.List.{List}

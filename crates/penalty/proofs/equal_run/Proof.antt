@@ -1,5 +1,4 @@
 -- `penalty::equal_run` meets its contract. The invariant: whether the first i modules are equal.
--- Assumes nothing.
 use mathlib.Core.Path.{_≡_, sym, ap, _∙_}
 use mathlib.Core.Logic.{⊎-elim}
 use Prim.Native.Nat.{_+_, _*_, _-_, _≤_}

@@ -1,5 +1,4 @@
 -- `penalty::finder_like` meets its contract.
--- Assumes nothing.
 use mathlib.Core.Path.{sym, _∙_}
 use Rattle.penalty.specs.Penalty.{finderLike, patterns}
 use borrow.Author.Needs.{needs}

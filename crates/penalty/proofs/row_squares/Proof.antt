@@ -1,5 +1,4 @@
 -- `penalty::row_squares` meets its contract. The invariant: the score is that of the squares passed.
--- Assumes nothing.
 use mathlib.Core.Path.{_≡_, refl, ap, ap₂, _∙_}
 use Prim.Native.Nat.{_+_, _*_, _-_, _≤_}
 use native.Mathlib.Nat.{le-antisymm}

@@ -1,5 +1,4 @@
 -- `penalty::score` meets its contract: its parts are those of the definition, and their bounds keep the sum in range.
--- Assumes nothing.
 use mathlib.Core.Path.{sym, ap, ap₂, _∙_}
 use mathlib.Core.List.{List}
 use Prim.Native.Nat.{ℕ, _+_, _*_, _-_, _≤_}
@@ -17,17 +16,28 @@ use Rattle.penalty.proofs.score.Tie as tie
 area : (s : ℕ) → s ≤ 57 → s * s ≤ 3249
 area s h = mul-le-mul h h
 
-parts : (c : tie.After-squares-score) → (c .before .before .columns-score .result ≤ 110295) × ((c .before .columns-score2 .result ≤ 110295) × (c .squares-score .result ≤ 9408))
-parts c =
-    let h : c .before .before .before .before .before .before .before .before .args .s ≤ 57 = omega arith in (
-      rw (c .before .before .columns-score .ensures) (lines-small _ _ _ _ _ h),
-      (rw (c .before .columns-score2 .ensures) (lines-small _ _ _ _ _ h), rw (c .squares-score .ensures) (squares-small _ _ h)),
-    )
+-- the entry, and the bounds of what is scored by then
+module _ (c : tie.After-squares-score) where
+  abbrev start : tie.Start
+  start = c .before .before .before .before .before .before .before .before
 
-count : (c : tie.After-dark) → c .dark .result ≤ c .before .before .before .before .before .before .before .before .before .args .s * c .before .before .before .before .before .before .before .before .before .args .s
+  abbrev s : ℕ
+  s = start .args .s
+
+  parts : (c .before .before .columns-score .result ≤ 110295) × ((c .before .columns-score2 .result ≤ 110295) × (c .squares-score .result ≤ 9408))
+  parts =
+      let h : s ≤ 57 = omega arith in (
+        rw (c .before .before .columns-score .ensures) (lines-small _ _ _ _ _ h),
+        (rw (c .before .columns-score2 .ensures) (lines-small _ _ _ _ _ h), rw (c .squares-score .ensures) (squares-small _ _ h)),
+      )
+
+  small : s * s ≤ 3249
+  small = area s (omega arith)
+
+count : (c : tie.After-dark) → c .dark .result ≤ s (c .before) * s (c .before)
 count c =
-    let p = c .before .before .before .before .before .before .before .before .before .pre in
-    rw (c .dark .ensures) (omega (arith, dark-le (c .before .before .before .before .before .before .before .before .before .args .m .now), p .1 .1 .0))
+    let a = start (c .before) in
+    rw (c .dark .ensures) (omega (arith, dark-le (a .args .m .now), a .pre .1 .1 .0))
 
 slice-aggregate-turn : tie.Need-slice-aggregate-turn
 slice-aggregate-turn c = search needs
@@ -57,30 +67,33 @@ cast-share-score : tie.Need-cast-share-score
 cast-share-score c = search needs
 
 dark-requires : tie.Need-dark-requires
-dark-requires c κs = (omega (arith, area (c .before .before .before .before .before .before .before .before .args .s) (omega arith)), c .before .before .before .before .before .before .before .before .pre .1 .1 .1)
+dark-requires c κs = (omega (arith, small c, start c .pre .1 .1 .0), start c .pre .1 .1 .1)
 
 share-score-requires : tie.Need-share-score-requires
-share-score-requires c κs = omega (arith, count c, area (c .before .before .before .before .before .before .before .before .before .args .s) (omega arith))
+share-score-requires c κs = omega (arith, count c, small (c .before))
 
 add-result-3 : tie.Need-add-result-3
-add-result-3 c = omega (arith, parts (c .before .before), c .share-score .ensures, share-le (c .before .before .before .before .before .before .before .before .before .before .args .s) (c .before .dark .result) (count (c .before)))
+add-result-3 c =
+    let q = c .before .before in
+    omega (arith, parts q, c .share-score .ensures, share-le (s q) (c .before .dark .result) (count (c .before)))
 
 returns : tie.Need-returns
 unfolding score
 returns c =
-    let start = c .before .before .before .before .before .before .before .before .before .before in
-    let s = start .args .s in
-    let m = start .args .m .now in
-    let e = start .pre .1 .1 .0 in
+    let q = c .before .before in
+    let a = start q in
+    let m = a .args .m .now in
+    let e = a .pre .1 .1 .0 in
+    let columns = q .before .before in
     ap₂ _+_
     (ap₂ _+_
     (ap₂ _+_
-    (c .before .before .before .before .columns-score .ensures
-    ∙ ap (λ (xs : List ℕ). lines (linesFrom xs 0 1 s s s)) (c .before .before .before .before .before .before .before .turn .ensures)
-    ∙ ap lines (turned-lines m _ s ∙ sym (rows-lines s m e)))
-    (c .before .before .before .columns-score2 .ensures ∙ ap lines (sym (columns-lines s m e))))
-    (c .before .before .squares-score .ensures))
-    (c .share-score .ensures ∙ ap (share s) (c .before .dark .ensures))
+    (columns .columns-score .ensures
+    ∙ ap (λ (xs : List ℕ). lines (linesFrom xs 0 1 (s q) (s q) (s q))) (columns .before .before .before .turn .ensures)
+    ∙ ap lines (turned-lines m _ (s q) ∙ sym (rows-lines (s q) m e)))
+    (q .before .columns-score2 .ensures ∙ ap lines (sym (columns-lines (s q) m e))))
+    (q .squares-score .ensures))
+    (c .share-score .ensures ∙ ap (share (s q)) (c .before .dark .ensures))
 
 pub score-spec : {M : Type 1} → statement M
 score-spec =

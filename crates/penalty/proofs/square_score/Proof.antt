@@ -1,5 +1,4 @@
 -- `penalty::square_score` meets its contract.
--- Assumes nothing.
 use borrow.Author.Tests.{eq-eqb, ne-eqb}
 use Rattle.penalty.specs.Lines.{square}
 use Rattle.penalty.proofs.square_score.Statement.{statement}

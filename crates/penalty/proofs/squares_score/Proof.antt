@@ -1,5 +1,4 @@
 -- `penalty::squares_score` meets its contract. The invariant: the score is that of the rows passed.
--- Assumes nothing.
 use mathlib.Core.Path.{_≡_, refl, sym, ap₂, _∙_}
 use Prim.Native.Nat.{ℕ, suc, _+_, _*_, _-_, _<_, _≤_}
 use native.Mathlib.Nat.{le-antisymm, mul-le-mul-right, mul-le-mul, suc-mul}
@@ -29,7 +28,9 @@ abbrev μ-loop : tie.MeasureT-loop
 
 small : (c : tie.After-row-squares Inv-loop μ-loop) → c .row-squares .result ≤ 192
 small c =
-    rw (c .row-squares .ensures) (omega (arith, squares-from-le (c .before .before .before .before .args .s) (c .before .before .before .before .args .m .now) (c .before .before .loop .i * c .before .before .before .before .args .s) (c .before .before .before .before .args .s - 1)))
+    let at = c .before .before in
+    let a = at .before .before .args in
+    rw (c .row-squares .ensures) (omega (arith, squares-from-le (a .s) (a .m .now) (at .loop .i * a .s) (a .s - 1)))
 
 loop-holds : tie.Need-loop-holds Inv-loop μ-loop
 unfolding sum

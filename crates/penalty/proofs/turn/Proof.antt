@@ -1,5 +1,4 @@
 -- `penalty::turn` meets its contract. The invariant: the first i columns are copied, one after the other, and the rest is as it was.
--- Assumes nothing.
 use mathlib.Core.Path.{_≡_, refl, ap, _∙_}
 use mathlib.Core.List.{_++_}
 use Prim.Native.Nat.{ℕ, _+_, _*_, _-_, _<_, _≤_}

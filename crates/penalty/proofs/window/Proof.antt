@@ -1,5 +1,4 @@
 -- `penalty::window` meets its contract. The invariant: the first k entries are built.
--- Assumes nothing.
 use mathlib.Core.Path.{_≡_, refl, _∙_}
 use Prim.Native.Nat.{ℕ, _+_, _*_, _-_, _≤_, _<_}
 use native.Mathlib.Nat.{mul-le-mul-right, le-antisymm}

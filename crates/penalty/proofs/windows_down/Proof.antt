@@ -1,5 +1,4 @@
 -- `penalty::windows_down` meets its contract. The invariant: the count is that of the places passed.
--- Assumes nothing.
 use mathlib.Core.Path.{_≡_, refl, sym, ap, ap₂, _∙_}
 use Prim.Native.Nat.{ℕ, _+_, _*_, _-_, _≤_}
 use native.Mathlib.Nat.{mul-le-mul}

@@ -1,5 +1,4 @@
 -- `reader::check_copy` meets its contract: what the copy stands for is the only word that it stands for.
--- Assumes nothing.
 use Rattle.reader.proofs.Words.{copy-none, copy-same, copy-other}
 use borrow.Author.Needs.{needs}
 use Rattle.reader.proofs.check_copy.Statement.{statement}
@@ -19,15 +18,21 @@ wide-requires c κs = search needs
 
 returns : tie.Need-returns
 returns c =
-    copy-none _ _ _ (c .before .before .before .before .pre .0) (c .before .before .before .before .pre .1 .1 .0) (c .before .before .version-found .result) (c .before .before .version-found .ensures) (c .enum-told .given .1)
+    let f = c .before .before in
+    let p = f .before .before .pre in
+    copy-none _ _ _ (p .0) (p .1 .1 .0) (f .version-found .result) (f .version-found .ensures) (c .enum-told .given .1)
 
 returns-2 : tie.Need-returns-2
 returns-2 c =
-    copy-same _ _ _ (c .before .before .before .before .before .before .before .pre .0) (c .before .before .before .before .before .before .before .pre .1 .1 .0) (c .before .before .before .before .before .version-found .result) (c .before .before .before .before .before .version-found .ensures) _ _ (c .before .before .before .x .given .1) (c .before .wide .ensures) (c .if1 .taken)
+    let f = c .before .before .before .before .before in
+    let p = f .before .before .pre in
+    copy-same _ _ _ (p .0) (p .1 .1 .0) (f .version-found .result) (f .version-found .ensures) _ _ (c .before .before .before .x .given .1) (c .before .wide .ensures) (c .if1 .taken)
 
 returns-3 : tie.Need-returns-3
 returns-3 c =
-    copy-other _ _ _ (c .before .before .before .before .before .before .before .pre .0) (c .before .before .before .before .before .before .before .pre .1 .1 .0) (c .before .before .before .before .before .version-found .result) (c .before .before .before .before .before .version-found .ensures) _ _ (c .before .before .before .x .given .1) (c .before .wide .ensures) (c .if1 .left)
+    let f = c .before .before .before .before .before in
+    let p = f .before .before .pre in
+    copy-other _ _ _ (p .0) (p .1 .1 .0) (f .version-found .result) (f .version-found .ensures) _ _ (c .before .before .before .x .given .1) (c .before .wide .ensures) (c .if1 .left)
 
 pub check-copy-spec : {M : Type 1} → statement M
 check-copy-spec =

@@ -1,6 +1,6 @@
 -- `reader::check_modules` meets its contract. The invariant: no module passed is larger than `most`, which is above 2 only where a module is.
--- Assumes nothing.
-use mathlib.Core.Logic.{⊎-elim}
+use mathlib.Core.Path.{refl}
+use mathlib.Core.Logic.{inl, inr, ⊎-elim}
 use Prim.Native.Nat.{ℕ, _-_, _≤_, _<_}
 use native.Mathlib.Nat.{not-suc-le-zero, le-trans}
 use native.Mathlib.Omega.{arith}
@@ -42,10 +42,10 @@ loop-again c =
     )
 
 returns : tie.Need-returns Inv-loop μ-loop
-returns c = c .before .before .loop .inv .2 (c .if1 .taken)
+returns c = inl (refl, c .before .before .loop .inv .2 (c .if1 .taken))
 
 returns-2 : tie.Need-returns-2 Inv-loop μ-loop
-returns-2 c = λ i h. le-trans (c .before .before .loop .inv .1 i (omega arith)) (c .if1 .left)
+returns-2 c = inr (refl, λ i h. le-trans (c .before .before .loop .inv .1 i (omega arith)) (c .if1 .left))
 
 pub check-modules-spec : {M : Type 1} → statement M
 check-modules-spec =

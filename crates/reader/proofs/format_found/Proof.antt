@@ -1,5 +1,4 @@
 -- `reader::format_found` meets its contract: the copy is as it was read, and has few enough bits.
--- Assumes nothing.
 use Rattle.reader.proofs.Words.{format-asked, format-given}
 use borrow.Author.Needs.{needs}
 use Rattle.reader.proofs.format_found.Statement.{statement}

@@ -1,5 +1,4 @@
 -- `reader::larger` meets its contract.
--- Assumes nothing.
 use mathlib.Core.Path.{refl}
 use mathlib.Core.Logic.{inl, inr}
 use native.Mathlib.Nat.{le-refl}

@@ -1,5 +1,4 @@
 -- `reader::mend` meets its contract: the room that it has is enough for every version.
--- Assumes nothing.
 use mathlib.Core.Path.{sym, subst, _∙_}
 use Prim.Native.Nat.{ℕ, _≤_}
 use lib.Seq.{length-take-le}
@@ -14,35 +13,23 @@ room c = subst (λ (x : ℕ). x ≤ 346) (sym (c .total .ensures)) (total-most _
 total-requires : tie.Need-total-requires
 total-requires c κs = search needs
 
-array-borrow-prefix-words : tie.Need-array-borrow-prefix-words
-array-borrow-prefix-words c = room c
+array-borrow-prefix-blocks : tie.Need-array-borrow-prefix-blocks
+array-borrow-prefix-blocks c = room c
 
 slice-aggregate-mend-in : tie.Need-slice-aggregate-mend-in
 slice-aggregate-mend-in c = sym (length-take-le _ _ (room (c .before)))
 
-array-borrow-prefix-flags : tie.Need-array-borrow-prefix-flags
-array-borrow-prefix-flags c = room (c .before)
+array-borrow-prefix-lost : tie.Need-array-borrow-prefix-lost
+array-borrow-prefix-lost c = room (c .before)
 
 slice-aggregate-mend-in-2 : tie.Need-slice-aggregate-mend-in-2
 slice-aggregate-mend-in-2 c = sym (length-take-le _ _ (room (c .before .before)))
 
-array-borrow-prefix-blocks : tie.Need-array-borrow-prefix-blocks
-array-borrow-prefix-blocks c = room (c .before .before)
-
-slice-aggregate-mend-in-3 : tie.Need-slice-aggregate-mend-in-3
-slice-aggregate-mend-in-3 c = sym (length-take-le _ _ (room (c .before .before .before)))
-
-array-borrow-prefix-lost : tie.Need-array-borrow-prefix-lost
-array-borrow-prefix-lost c = room (c .before .before .before)
-
-slice-aggregate-mend-in-4 : tie.Need-slice-aggregate-mend-in-4
-slice-aggregate-mend-in-4 c = sym (length-take-le _ _ (room (c .before .before .before .before)))
-
 mend-in-requires : tie.Need-mend-in-requires
-mend-in-requires c κs = (
-  c .before .before .before .before .before .before .before .before .pre .0,
-  (c .before .before .before .before .before .before .before .before .pre .1, (length-take-le _ _ (room (c .before .before .before .before .before)) ∙ c .before .before .before .before .before .total .ensures, (length-take-le _ _ (room (c .before .before .before .before .before)) ∙ c .before .before .before .before .before .total .ensures, (length-take-le _ _ (room (c .before .before .before .before .before)) ∙ c .before .before .before .before .before .total .ensures, length-take-le _ _ (room (c .before .before .before .before .before)) ∙ c .before .before .before .before .before .total .ensures)))),
-)
+mend-in-requires c κs =
+    let t = c .before .before .before in
+    let s = t .before .before .before in
+    (s .pre .0, (s .pre .1, (length-take-le _ _ (room t) ∙ t .total .ensures, length-take-le _ _ (room t) ∙ t .total .ensures)))
 
 same-length : tie.Need-same-length
 same-length c = search needs
@@ -55,14 +42,10 @@ mend-spec =
     tie.close
     (tie.spec
     total-requires
-    array-borrow-prefix-words
-    slice-aggregate-mend-in
-    array-borrow-prefix-flags
-    slice-aggregate-mend-in-2
     array-borrow-prefix-blocks
-    slice-aggregate-mend-in-3
+    slice-aggregate-mend-in
     array-borrow-prefix-lost
-    slice-aggregate-mend-in-4
+    slice-aggregate-mend-in-2
     mend-in-requires
     same-length
     returns)

@@ -1,5 +1,4 @@
 -- `reader::version_found` meets its contract: the copy is as it was read, and has few enough bits.
--- Assumes nothing.
 use Rattle.reader.proofs.Words.{version-asked, version-given}
 use borrow.Author.Needs.{needs}
 use Rattle.reader.proofs.version_found.Statement.{statement}

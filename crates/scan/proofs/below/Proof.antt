@@ -1,5 +1,4 @@
 -- `scan::below` meets its contract.
--- Assumes nothing.
 use mathlib.Core.Path.{_≡_, sym, ap, _∙_}
 use mathlib.Core.Logic.{⊎-elim}
 use Prim.Native.Nat.{ℕ, _+_, _*_}
@@ -33,7 +32,11 @@ add-t11 : tie.Need-add-t11
 add-t11 c = omega (arith, can-is (c .before .before .before .before), one-le (ltb (c .before .before .before .before .before .before .args .x) 2))
 
 returns : tie.Need-returns
-returns c = (ap (λ (x : ℕ). x + 2 * c .before .before .before .before .before .before .args .c .bits) (bit-is (c .before .before .before .before .before)), ap (λ (x : ℕ). x + 2 * c .before .before .before .before .before .before .args .c .readable) (can-is (c .before .before .before .before)))
+returns c =
+    let can = c .before .before .before .before in
+    let bit = can .before in
+    let old = bit .before .args .c in
+    (ap (λ (x : ℕ). x + 2 * old .bits) (bit-is bit), ap (λ (x : ℕ). x + 2 * old .readable) (can-is can))
 
 pub below-spec : {M : Type 1} → statement M
 below-spec = tie.close (tie.spec mul-t8 add-t9 mul-t10 add-t11 returns)

@@ -1,5 +1,4 @@
 -- `scan::codewords` meets its contract: what is gathered is what the definition receives, and `pack` cuts it into eights.
--- Assumes nothing.
 use mathlib.Core.Path.{sym, subst⁻¹, ap, ap₂, _∙_}
 use mathlib.Core.List.{List, map}
 use Prim.Native.Nat.{ℕ}
@@ -15,6 +14,10 @@ use borrow.Author.Needs.{needs}
 use Rattle.scan.proofs.codewords.Statement.{statement}
 use Rattle.scan.proofs.codewords.Tie as tie
 
+-- the entry, once the data modules are gathered
+abbrev start : tie.After-gather → tie.Start
+start c = c .before .before .before .before .before
+
 slice-aggregate-gather : tie.Need-slice-aggregate-gather
 slice-aggregate-gather c = search needs
 
@@ -29,10 +32,11 @@ slice-aggregate-pack c = let g = c .before .before .gather .ensures in sym (leng
 
 pack-requires : tie.Need-pack-requires
 pack-requires c κs =
-    let a = c .before .before .before .before .before .before .before .before .before in
+    let made = c .before .before .before .before in
+    let a = start made in
     let v : ℕ = a .args .v in
     let m = a .args .m .now in
-    let g = c .before .before .before .before .gather .ensures .1 .1 in
+    let g = made .gather .ensures .1 .1 in
     let long = ap length g ∙ received-length v (a .args .mask) m (a .pre .0 .0) (a .pre .0 .1 .0) in (
       subst⁻¹ (λ (xs : List ℕ). AtMost 2 xs) g (received-le v (a .args .mask) m (a .pre .0 .0) (a .pre .0 .1 .0) (a .pre .1 .0 .0) (a .pre .1 .0 .1)),
       (
@@ -50,9 +54,11 @@ same-length-2 c = search needs
 returns : tie.Need-returns
 unfolding codewords flags
 returns c =
-    let a = c .before .before .before .before .before .before .before .before .before .before .before .before .before .before in
-    let g = c .before .before .before .before .before .before .before .before .before .gather .ensures .1 .1 in
-    let p = c .before .before .before .before .pack .ensures in (
+    let packed = c .before .before .before .before in
+    let made = packed .before .before .before .before .before in
+    let a = start made in
+    let g = made .gather .ensures .1 .1 in
+    let p = packed .pack .ensures in (
       p .0 ∙ ap₂ (λ (bs : List ℕ) (n : ℕ). map (codeword bs) (upTo n)) g (a .pre .1 .1 .0),
       p .1 ∙ ap₂ (λ (bs : List ℕ) (n : ℕ). map (flag bs) (upTo n)) g (a .pre .1 .1 .0),
     )

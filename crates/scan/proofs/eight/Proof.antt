@@ -1,5 +1,4 @@
 -- `scan::eight` meets its contract. The loop's invariant: the number and the flag are those of the modules passed.
--- Assumes nothing.
 use Rattle.basics.specs.Bits.{numberAfter}
 use lib.ListN.{length-take}
 use native.Mathlib.Nat.{pow-suc}
@@ -59,7 +58,10 @@ wide-requires : tie.Need-wide-requires Inv-loop μ-loop
 wide-requires c κs = search needs
 
 add-x : tie.Need-add-x Inv-loop μ-loop
-add-x c = omega (arith, small (c .before .before .before .loop .x) (c .before .before .before .loop .t) (search needs) (search needs), low (c .before .before .before .before .before) (c .before .before .before .loop .t) (search needs), c .wide .ensures)
+add-x c =
+    let at = c .before .before .before in
+    let l = at .loop in
+    omega (arith, small (l .x) (l .t) (search needs) (search needs), low (at .before .before) (l .t) (search needs), c .wide .ensures)
 
 add-t : tie.Need-add-t Inv-loop μ-loop
 add-t c = search needs

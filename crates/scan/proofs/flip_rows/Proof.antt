@@ -1,5 +1,4 @@
 -- `scan::flip_rows` meets its contract. The loop's invariant: the first i rows stand.
--- Assumes nothing.
 use mathlib.Core.Path.{_≡_, refl, sym, ap, _∙_}
 use mathlib.Core.List.{List}
 use Prim.Native.Nat.{ℕ, _-_, _≤_, _<_}

@@ -1,5 +1,4 @@
 -- `scan::gather` meets its contract: the walk, with the kinds that tell the data modules and the rows that tell the mask.
--- Assumes nothing.
 use mathlib.Core.Path.{subst⁻¹, _∙_}
 use mathlib.Core.List.{List, map}
 use Prim.Native.Nat.{ℕ, _-_, _*_, _≤_}
@@ -32,16 +31,21 @@ slice-aggregate-walk c = search needs
 slice-aggregate-walk-2 : tie.Need-slice-aggregate-walk-2
 slice-aggregate-walk-2 c = search needs
 
+-- the entry, from the rows of flips on
+abbrev start : tie.After-flip-rows → tie.Start
+start c = c .before .before .before .before .before .before .before
+
 walk-requires : tie.Need-walk-requires
 walk-requires c κs =
-    let a = c .before .before .before .before .before .before .before .before .before .before in
+    let rows = c .before .before .before in
+    let a = start rows in
     let v : ℕ = a .args .v in
     record {
       least = a .pre .0 .0;
       most = a .pre .0 .1 .0;
       matrix = a .pre .1 .0;
-      map = subst⁻¹ (λ (k : List ℕ). DataMap v k) (c .before .before .before .before .before .before .kinds2 .ensures) (kinds-map v _);
-      flips = omega (arith, c .before .before .before .flip-rows .ensures .0);
+      marked = subst⁻¹ (λ (k : List ℕ). DataMap v k) (rows .before .before .before .kinds2 .ensures) (kinds-map v _);
+      flips = omega (arith, rows .flip-rows .ensures .0);
       enough = a .pre .1 .1;
     }
 
@@ -50,12 +54,13 @@ same-length c = search needs
 
 returns : tie.Need-returns
 returns c =
-    let a = c .before .before .before .before .before .before .before .before .before .before .before .before .before in
+    let rows = c .before .before .before .before .before .before in
+    let a = start rows in
     let v : ℕ = a .args .v in
     let m = a .args .m .now in
     let w = c .before .before .walk .ensures in
-    let f = c .before .before .before .before .before .before .flip-rows .ensures .1 in
-    let sized = c .before .before .before .before .before .before .before .side .ensures in
+    let f = rows .flip-rows .ensures .1 in
+    let sized = rows .before .side .ensures in
     let fewer : side v * (side v - 1) ≤ side v * side v = mul-le-mul-left (side v) (omega arith) in (
       w .0,
       (

@@ -1,5 +1,4 @@
 -- `scan::meet` meets its contract: the module met is the walk's, and the kinds tell whether it is a data module.
--- Assumes nothing.
 use mathlib.Core.Path.{_≡_, refl, sym, ap, _∙_}
 use mathlib.Core.Bool.{true, false}
 use Prim.Native.Nat.{ℕ, _+_, _-_, _*_, _≤_, _<_}
@@ -49,7 +48,7 @@ module _ (c : tie.After-step) where
       omega (arith, start .pre .1 .few, steps-inside s (start .args .q) (start .args .r) (start .pre .0 .1 .0) (start .pre .0 .1 .1), start .pre .0 .0 .enough)
 
   tells : eqb (getD (start .args .kinds .now) place 0) 2 ≡ isData (start .args .v) place
-  tells = start .pre .0 .0 .map .tells place place-inside
+  tells = start .pre .0 .0 .marked .tells place place-inside
 
 side-requires : tie.Need-side-requires
 side-requires c κs = search needs
@@ -64,7 +63,7 @@ add-p : tie.Need-add-p
 add-p c = omega (arith, place-inside c, small c)
 
 shared-slice-read-if1 : tie.Need-shared-slice-read-if1
-shared-slice-read-if1 c = omega (arith, place-inside (c .before), start (c .before) .pre .0 .0 .map .long)
+shared-slice-read-if1 c = omega (arith, place-inside (c .before), start (c .before) .pre .0 .0 .marked .long)
 
 shared-slice-read-unmask : tie.Need-shared-slice-read-unmask
 shared-slice-read-unmask c = omega (arith, place-inside (c .before .before .before), start (c .before .before .before) .pre .0 .0 .matrix)

@@ -1,5 +1,4 @@
 -- `scan::pack` meets its contract. The loop's invariant: the first q codewords and flags stand.
--- Assumes nothing.
 use mathlib.Core.Path.{_≡_, refl, sym, _∙_}
 use Prim.Native.Nat.{ℕ, _-_, _≤_}
 use native.Mathlib.Omega.{arith}

@@ -1,5 +1,4 @@
 -- `scan::pair` meets its contract. The loop's invariant: the entries so far are the data modules that the steps so far met.
--- Assumes nothing.
 use mathlib.Core.Path.{_≡_, refl, subst, _∙_}
 use Prim.Native.Nat.{ℕ, _+_, _-_, _*_, _≤_}
 use native.Mathlib.Nat.{add-zero, add-assoc}
@@ -17,6 +16,10 @@ Inv-loop m kinds rows v q out₀ n s count₀ r₀ out count r = (r ≤ 2 * side
 abbrev μ-loop : tie.MeasureT-loop
 μ-loop m kinds rows v q out₀ n s count₀ r₀ out count r = 2 * side v - r
 
+-- the entry, from the loop's test
+abbrev start : tie.At-loop Inv-loop μ-loop → tie.Start Inv-loop μ-loop
+start c = c .before .before .before .before .before .before
+
 side-requires : tie.Need-side-requires Inv-loop μ-loop
 side-requires c κs = c .before .before .before .before .pre .0 .0 .most
 
@@ -28,11 +31,11 @@ mul-loop c = search needs
 
 meet-requires : tie.Need-meet-requires Inv-loop μ-loop
 meet-requires c κs =
-    let a = c .before .before .before .before .before .before .before .before in
+    let a = start (c .before .before) in
     let l = c .before .before .loop in
     let k = a .pre .0 .0 in (
       (
-        record { least = k .least; most = k .most; matrix = k .matrix; map = k .map; flips = k .flips; enough = omega (arith, k .enough, l .inv .1) },
+        record { least = k .least; most = k .most; matrix = k .matrix; marked = k .marked; flips = k .flips; enough = omega (arith, k .enough, l .inv .1) },
         (a .pre .0 .1, search needs),
       ),
       l .inv .2,
@@ -46,8 +49,9 @@ loop-less c = search needs
 
 loop-again : tie.Need-loop-again Inv-loop μ-loop
 loop-again c =
-    let a = c .before .before .before .before .before .before .before .before .before .before .before in
-    let l = c .before .before .before .before .before .loop in
+    let turn = c .before .before .before .before .before in
+    let a = start turn in
+    let l = turn .loop in
     let e = c .before .before .meet .ensures in
     (search needs, e .0 ∙ l .inv .1, rw (← add-assoc (a .args .q * (2 * side (a .args .v))) (l .r) 1) (e .1))
 
@@ -56,7 +60,7 @@ same-length c = c .before .loop .inv .1
 
 returns : tie.Need-returns Inv-loop μ-loop
 returns c =
-    let a = c .before .before .before .before .before .before .before in
+    let a = start (c .before) in
     let l = c .before .loop in
     let s-is : c .before .before .side .result ≡ side (a .args .v) = c .before .before .side .ensures in
     let done : l .r ≡ 2 * side (a .args .v) = omega arith in (

@@ -1,5 +1,4 @@
 -- `scan::step` meets its contract: the definition's cases, in their order.
--- Assumes nothing.
 use mathlib.Core.Path.{_≡_, _∙_}
 use mathlib.Core.Logic.{_⊎_, inl, inr, ⊎-elim}
 use mathlib.Core.Bool.{cond}

@@ -1,5 +1,4 @@
 -- `scan::unmask` meets its contract.
--- Assumes nothing.
 use borrow.Author.Tests.{eq-eqb, ne-eqb}
 use Rattle.scan.specs.Scan.{plain}
 use borrow.Author.Needs.{needs}

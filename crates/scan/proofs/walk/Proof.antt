@@ -1,5 +1,4 @@
 -- `scan::walk` meets its contract. The loop's invariant: the column pairs before q are walked.
--- Assumes nothing.
 use mathlib.Core.Path.{_≡_, refl, subst, sym, _∙_}
 use Prim.Native.Nat.{ℕ, _+_, _-_, _*_, _≤_}
 use native.Mathlib.Nat.{add-mul, mul-assoc, mul-comm, mul-left-comm, one-mul, zero-mul}
@@ -26,6 +25,10 @@ Inv-loop m kinds rows v out₀ s n₀ q₀ out n q = (2 * q + 1 ≤ side v) × (
 abbrev μ-loop : tie.MeasureT-loop
 μ-loop m kinds rows v out₀ s n₀ q₀ out n q = side v - 2 * q
 
+-- the entry, from the loop's test
+abbrev start : tie.At-loop Inv-loop μ-loop → tie.Start Inv-loop μ-loop
+start c = c .before .before .before .before .before .before
+
 side-requires : tie.Need-side-requires Inv-loop μ-loop
 side-requires c κs = c .before .before .before .before .pre .most
 
@@ -40,10 +43,10 @@ add-loop c = search needs
 
 pair-requires : tie.Need-pair-requires Inv-loop μ-loop
 pair-requires c κs =
-    let k = c .before .before .before .before .before .before .before .before .pre in
+    let k = start (c .before .before) .pre in
     let l = c .before .before .loop in (
       (
-        record { least = k .least; most = k .most; matrix = k .matrix; map = k .map; flips = k .flips; enough = omega (arith, k .enough, l .inv .1) },
+        record { least = k .least; most = k .most; matrix = k .matrix; marked = k .marked; flips = k .flips; enough = omega (arith, k .enough, l .inv .1) },
         search needs,
       ),
       l .inv .2,
@@ -57,8 +60,9 @@ loop-less c = search needs
 
 loop-again : tie.Need-loop-again Inv-loop μ-loop
 loop-again c =
-    let a = c .before .before .before .before .before .before .before .before .before .before .before in
-    let l = c .before .before .before .before .before .loop in
+    let turn = c .before .before .before .before .before in
+    let a = start turn in
+    let l = turn .loop in
     let e = c .before .before .pair .ensures in
     (search needs, e .0 ∙ l .inv .1, rw (add-mul (l .q) 1 (2 * side (a .args .v)), one-mul (2 * side (a .args .v))) (e .1))
 
@@ -67,7 +71,7 @@ same-length c = c .before .loop .inv .1
 
 returns : tie.Need-returns Inv-loop μ-loop
 returns c =
-    let a = c .before .before .before .before .before .before .before in
+    let a = start (c .before) in
     let l = c .before .loop in
     let s : ℕ = side (a .args .v) in
     let s-is : c .before .before .side .result ≡ s = c .before .before .side .ensures in

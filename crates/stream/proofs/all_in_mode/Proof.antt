@@ -1,5 +1,4 @@
 -- `stream::all_in_mode` meets its contract. The invariant: all are in the mode if those that are left are.
--- Assumes nothing.
 use mathlib.Core.Bool.{true, false}
 use mathlib.Core.Path.{_≡_, refl, sym, _∙_}
 use Prim.Native.Nat.{_-_}

@@ -1,5 +1,4 @@
 -- `stream::clear` meets its contract. The invariant: so many zeros, and the rest as it was.
--- Assumes nothing.
 use mathlib.Core.Path.{_≡_, refl, _∙_}
 use mathlib.Core.List.{_++_, append-nil}
 use Prim.Native.Nat.{_+_, _-_, _≤_}

@@ -1,5 +1,4 @@
 -- `stream::code_of` meets its contract: each arm by the code of its characters.
--- Assumes nothing.
 use mathlib.Core.Path.{sym, ap}
 use native.Mathlib.Omega.{arith}
 use borrow.Author.Needs.{needs}

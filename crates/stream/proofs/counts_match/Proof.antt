@@ -1,5 +1,4 @@
 -- `stream::counts_match` meets its contract. The invariant: the sum is at most the length, and with the counts that are left it is the whole sum.
--- Assumes nothing.
 use mathlib.Core.Path.{_≡_, sym, ap}
 use Prim.Native.Nat.{ℕ, _+_, _-_, _≤_, _<_}
 use native.Mathlib.Nat.{zero-add}
@@ -47,7 +46,9 @@ returns : tie.Need-returns Inv-loop μ-loop
 returns c =
     let l = c .before .before .before .before .loop in
     let a = c .before .before .before .before .before .before .args in
-    sym (ne-eqb _ _ (λ e. above _ _ (sum-past (l .sum) (c .before .wide .result) (a .len) _ _ _ (l .inv .2) (counts-more (a .list .now) (l .i) (omega arith)) (c .before .wide .ensures) (l .inv .1) (c .if1 .taken)) e))
+    let next = counts-more (a .list .now) (l .i) (omega arith) in
+    let past = sum-past (l .sum) (c .before .wide .result) (a .len) _ _ _ (l .inv .2) next (c .before .wide .ensures) (l .inv .1) (c .if1 .taken) in
+    sym (ne-eqb _ _ (λ e. above _ _ past e))
 
 add-sum : tie.Need-add-sum Inv-loop μ-loop
 add-sum c = omega arith

@@ -1,16 +1,15 @@
 -- `stream::fits` meets its contract. The invariant: the sum is at most the data bits, and with the widths that are left it is the whole width.
--- Assumes nothing.
 use mathlib.Core.Path.{_≡_, sym}
-use Prim.Native.Nat.{ℕ, _+_, _-_, _*_, _≤_, _<_}
+use Prim.Native.Nat.{ℕ, _+_, _-_, _≤_}
 use native.Mathlib.Nat.{zero-add}
 use native.Mathlib.Omega.{arith}
-use lib.ListN.{length, drop}
-use borrow.Author.Tests.{lt-leb, le-leb}
+use lib.ListN.{length, getD, drop}
 use borrow.Author.Needs.{needs}
-use Rattle.tables.specs.Tables.{dataCount, countWidth}
+use Rattle.tables.specs.Tables.{countWidth}
 use Rattle.tables.proofs.Rules.{data-most}
-use Rattle.stream.specs.Stream.{bodyWidth, segmentsWidth, fits}
-use Rattle.stream.proofs.Pairs.{sum-past, width-more, width-none}
+use Rattle.stream.specs.Stream.{bodyWidth, segmentsWidth}
+use Rattle.stream.proofs.Fitting.{width-fits, width-past}
+use Rattle.stream.proofs.Pairs.{width-more, width-none}
 use Rattle.stream.proofs.fits.Statement.{statement}
 use Rattle.stream.proofs.fits.Tie as tie
 
@@ -63,23 +62,31 @@ sub-if1 c = omega arith
 wide-is : (v : ℕ) {w m n m′ n′ : ℕ} → w ≡ 4 + countWidth v m + bodyWidth m n → m ≡ m′ → n ≡ n′ → w ≡ 4 + countWidth v m′ + bodyWidth m′ n′
 wide-is v e p q = rw (← p, ← q) e
 
-bound : (sum all most : ℕ) {left : ℕ} → sum + left ≡ all → left ≡ 0 → sum ≤ most → all ≤ most
-bound sum all most e z h = omega arith
+-- a turn: the sum, the segment's width and the widths after it are the whole width
+module _ (c : tie.After-segment-width Inv-loop μ-loop) where
+  abbrev turn : tie.At-loop Inv-loop μ-loop
+  turn = c .before .before .before .before .before .before
+
+  abbrev start : tie.Start Inv-loop μ-loop
+  start = turn .before .before .before
+
+  width : c .segment-width .result
+      ≡ 4 + countWidth (start .args .v) (getD (start .args .list .now) (turn .loop .i) 0)
+      + bodyWidth (getD (start .args .list .now) (turn .loop .i) 0) (getD (start .args .list .now) (turn .loop .i + 1) 0)
+  width = wide-is (start .args .v) (c .segment-width .ensures) (c .before .before .before .wide .ensures) (c .before .wide2 .ensures)
+
+  summed : turn .loop .sum + (c .segment-width .result + segmentsWidth (start .args .v) (drop (turn .loop .i + 2) (start .args .list .now)))
+      ≡ segmentsWidth (start .args .v) (start .args .list .now)
+  summed = omega (arith, turn .loop .inv .2, width, width-more (start .args .list .now) (turn .loop .i) (start .args .v) (omega arith))
 
 returns : tie.Need-returns Inv-loop μ-loop
-unfolding fits
 returns c =
-    let k = c .before .before .before .before .before .before in
-    let l = k .before .loop in
-    let a = k .before .before .before .before .args in
-    let past : 8 * dataCount (a .v) (a .level) < segmentsWidth (a .v) (a .list .now) =
-    rw (k .before .before .«data» .ensures) at
-    (sum-past (l .sum) (c .before .segment-width .result) _ _ _ _ (l .inv .2) (width-more (a .list .now) (l .i) (a .v) (omega arith)) (wide-is (a .v) (c .before .segment-width .ensures) (c .before .before .before .before .wide .ensures) (c .before .before .wide2 .ensures)) (l .inv .1) (c .if1 .taken)) in
-    sym (lt-leb _ _ past)
+    let d = c .before in
+    sym (width-past _ _ _ (omega (arith, summed d, c .if1 .taken, turn d .loop .inv .1, turn d .before .«data» .ensures)))
 
 add-sum : tie.Need-add-sum Inv-loop μ-loop
 add-sum c =
-    let s = c .before .before .before .before .before .before .before .before .before .before in
+    let s = start (c .before) in
     omega (arith, c .if1 .left, data-most (s .args .v) (s .args .level) (s .pre))
 
 add-i : tie.Need-add-i Inv-loop μ-loop
@@ -89,18 +96,14 @@ loop-less : tie.Need-loop-less Inv-loop μ-loop
 loop-less c = omega arith
 
 loop-again : tie.Need-loop-again Inv-loop μ-loop
-loop-again c =
-    let k = c .before .before .before .before .before .before in
-    let l = k .before .loop in
-    let a = k .before .before .before .before .args in
-    (omega arith, omega arith, omega (arith, l .inv .2, width-more (a .list .now) (l .i) (a .v) (omega arith), wide-is (a .v) (c .before .segment-width .ensures) (c .before .before .before .before .wide .ensures) (c .before .before .wide2 .ensures)))
+loop-again c = (omega arith, omega arith, omega (arith, summed (c .before)))
 
 returns-2 : tie.Need-returns-2 Inv-loop μ-loop
-unfolding fits
 returns-2 c =
-    let l = c .before .loop in
-    let a = c .before .before .before .before .args in
-    sym (le-leb (segmentsWidth (a .v) (a .list .now)) (8 * dataCount (a .v) (a .level)) (rw (c .before .before .«data» .ensures) at (bound _ _ _ (l .inv .2) (width-none (a .list .now) (l .i) (a .v) (omega arith)) (l .inv .1))))
+    let t = c .before in
+    let s = t .before .before .before in
+    let none = width-none (s .args .list .now) (t .loop .i) (s .args .v) (omega arith) in
+    sym (width-fits _ _ _ (s .pre .least) (s .pre .most) (omega (arith, t .loop .inv .2, none, t .loop .inv .1, t .before .«data» .ensures)))
 
 pub fits-spec : {M : Type 1} → statement M
 fits-spec =

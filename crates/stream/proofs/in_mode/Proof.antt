@@ -1,5 +1,4 @@
 -- `stream::in_mode` meets its contract.
--- Assumes nothing.
 use borrow.Author.Tests.{ne-eqb}
 use borrow.Author.Needs.{needs}
 use Rattle.stream.specs.Stream.{inMode}

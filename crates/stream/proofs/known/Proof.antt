@@ -1,5 +1,4 @@
 -- `stream::known` meets its contract.
--- Assumes nothing.
 use borrow.Author.Tests.{ne-eqb}
 use Rattle.stream.specs.Stream.{known}
 use Rattle.stream.proofs.known.Statement.{statement}

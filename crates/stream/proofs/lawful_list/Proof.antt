@@ -1,5 +1,4 @@
 -- `stream::lawful_list` meets its contract. The invariant: the list is lawful if what is left of it is.
--- Assumes nothing.
 use mathlib.Core.Bool.{true, false}
 use mathlib.Core.Path.{_≡_, refl, sym, ap, _∙_}
 use Prim.Native.Nat.{_-_}

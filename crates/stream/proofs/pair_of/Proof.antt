@@ -1,5 +1,4 @@
 -- `stream::pair_of` meets its contract.
--- Assumes nothing.
 use Prim.Native.Nat.{ℕ, _+_, _*_, _<_, _≤_}
 use native.Mathlib.Nat.{mul-le-mul}
 use native.Mathlib.Omega.{arith}
@@ -41,7 +40,9 @@ code-of-requires-2 c κs = search needs
 add-result : tie.Need-add-result
 add-result c =
     let s = c .before .before .before .before .before in
-    record { fits = small-sum _ _ _ (s .pre .0) (rw (c .before .before .code-of .ensures) (code-le (getD (s .args .chars .now) (s .args .i) 0))) (rw (c .code-of2 .ensures) (code-le (getD (s .args .chars .now) (s .args .i + 1) 0))) }
+    let first : c .before .before .code-of .result ≤ 45 = rw (c .before .before .code-of .ensures) (code-le (getD (s .args .chars .now) (s .args .i) 0)) in
+    let second : c .code-of2 .result ≤ 45 = rw (c .code-of2 .ensures) (code-le (getD (s .args .chars .now) (s .args .i + 1) 0)) in
+    record { fits = small-sum _ _ _ (s .pre .0) first second }
 
 returns : tie.Need-returns
 returns c = rw (c .before .before .code-of .ensures, c .code-of2 .ensures)

@@ -1,5 +1,4 @@
 -- `stream::put_alphanumeric` meets its contract. The invariant: all is put but the bits of the characters that are left.
--- Assumes nothing.
 use mathlib.Core.Path.{_≡_, refl, sym, ap, _∙_}
 use mathlib.Core.List.{[], _++_, append-nil}
 use Prim.Native.Nat.{ℕ, _+_, _-_, _≤_}

@@ -1,5 +1,4 @@
 -- `stream::put_body` meets its contract.
--- Assumes nothing.
 use Rattle.stream.proofs.Bodies.{body-numeric, body-alphanumeric, body-bytes}
 use Rattle.stream.proofs.put_body.Statement.{statement}
 use Rattle.stream.proofs.put_body.Tie as tie

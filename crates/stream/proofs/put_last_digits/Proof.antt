@@ -1,5 +1,4 @@
 -- `stream::put_last_digits` meets its contract.
--- Assumes nothing.
 use mathlib.Core.Path.{_≡_, sym, ap, _∙_}
 use native.Mathlib.Omega.{arith}
 use borrow.Author.Needs.{needs}

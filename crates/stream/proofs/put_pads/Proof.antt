@@ -1,5 +1,4 @@
 -- `stream::put_pads` meets its contract. The invariant: the first k pads are pasted in behind the front.
--- Assumes nothing.
 use mathlib.Core.Path.{_≡_, refl, _∙_}
 use mathlib.Core.List.{append-nil}
 use Prim.Native.Nat.{_+_, _-_, _≤_}

@@ -1,6 +1,5 @@
 -- `stream::put_segment` meets its contract: mode, count and body are put one after the other.
--- Assumes nothing.
-use mathlib.Core.Path.{_≡_, _∙_}
+use mathlib.Core.Path.{_≡_, refl, _∙_}
 use mathlib.Core.List.{List, _++_, append-assoc}
 use Prim.Native.Nat.{ℕ, _+_}
 use native.Mathlib.Omega.{arith}
@@ -19,76 +18,91 @@ use Rattle.stream.proofs.put_segment.Tie as tie
 split : (v mode n : ℕ) (chars : List ℕ) → n ≡ mode → segmentBits v mode chars ≡ bits 4 n ++ (bits (countWidth v mode) (length chars) ++ body mode chars)
 split v mode n chars e = rw e (append-assoc (bits 4 mode) (bits (countWidth v mode) (length chars)) (body mode chars))
 
--- all that is asked is put but the count and the body
-after-mode : (c : tie.After-slice-known2)
-    → let s = c .before .before .before .before .before .before .before in
-    Going (s .args .out .now) (s .args .cursor .at) (segmentBits (s .args .v) (s .args .mode) (s .args .chars .now))
-    (c .before .before .put .last .1 .0) (c .before .before .put .result .at)
-    (bits (countWidth (s .args .v) (s .args .mode)) (length (s .args .chars .now)) ++ body (s .args .mode) (s .args .chars .now))
-after-mode c =
-    let s = c .before .before .before .before .before .before .before in
-    going-field _ _ _ 4 (c .before .before .before .narrow .result) _
-    (going-start _ _ _ (λ i l. omega (arith, c .before .before .before .before .before .slice-known .given i)))
-    (split (s .args .v) (s .args .mode) _ (s .args .chars .now) (c .before .before .before .narrow .ensures))
-    (s .pre .1 .1 .fit) (c .before .before .put .ensures .1) (c .before .before .put .ensures .0)
+-- all that is asked is put but a rest
+module _ (s : tie.Start) where
+  abbrev all : List ℕ
+  all = segmentBits (s .args .v) (s .args .mode) (s .args .chars .now)
+
+  abbrev Left : (out : List ℕ) (at : ℕ) (rest : List ℕ) → Type 0
+  Left = Going (s .args .out .now) (s .args .cursor .at) all
+
+-- before the mode is put
+module _ (c : tie.After-narrow) where
+  abbrev start : tie.Start
+  start = c .before .before .before .before
+
+  begun : Left start (start .args .out .now) (start .args .cursor .at) (all start)
+  begun = going-start _ _ _ (λ i l. omega (arith, c .before .before .slice-known .given i))
+
+  parted : all start
+      ≡ bits 4 (c .narrow .result) ++ (bits (countWidth (start .args .v) (start .args .mode)) (length (start .args .chars .now)) ++ body (start .args .mode) (start .args .chars .now))
+  parted = split (start .args .v) (start .args .mode) _ (start .args .chars .now) (c .narrow .ensures)
 
 -- the count and the body, as the numbers that are put
 counted : (v mode n x : ℕ) (chars : List ℕ) → n ≡ countWidth v mode → x ≡ length chars
     → bits (countWidth v mode) (length chars) ++ body mode chars ≡ bits n x ++ body mode chars
 counted v mode n x chars e h = rw (e, h)
 
--- all is put but the body
-after-count : (c : tie.After-slice-known3)
-    → let s = c .before .before .before .before .before .before .before .before .before .before .before .before .before in
-    Going (s .args .out .now) (s .args .cursor .at) (segmentBits (s .args .v) (s .args .mode) (s .args .chars .now))
-    (c .before .before .put2 .last .1 .0) (c .before .before .put2 .result .at) (body (s .args .mode) (s .args .chars .now))
-after-count c =
-    let k = c .before .before .before in
-    let s = k .before .before .before .before .before .before .before .before .before .before in
-    going-field _ _ _ (k .count-width .result) (k .before .narrow2 .result) _ (after-mode (k .before .before .before))
-    (counted (s .args .v) (s .args .mode) _ _ (s .args .chars .now) (k .count-width .ensures) (k .before .narrow2 .ensures))
-    (s .pre .1 .1 .fit) (c .before .before .put2 .ensures .1) (c .before .before .put2 .ensures .0)
+-- before the count is put: what is left is the count and the body
+module _ (c : tie.After-count-width) where
+  abbrev moded : tie.After-put
+  moded = c .before .before .before .before .before
+
+  abbrev from : tie.Start
+  from = start (moded .before)
+
+  after-mode : Left from (moded .put .last .1 .0) (moded .put .result .at)
+      (bits (c .count-width .result) (c .before .narrow2 .result) ++ body (from .args .mode) (from .args .chars .now))
+  after-mode =
+      rw (← counted (from .args .v) (from .args .mode) _ _ (from .args .chars .now) (c .count-width .ensures) (c .before .narrow2 .ensures))
+      (going-field _ _ _ 4 (moded .before .narrow .result) _ (begun (moded .before)) (parted (moded .before)) (from .pre .1 .1 .fit) (moded .put .ensures .1) (moded .put .ensures .0))
+
+-- before the body is put
+module _ (c : tie.After-put2) where
+  abbrev origin : tie.Start
+  origin = from (c .before)
+
+  after-count : Left origin (c .put2 .last .1 .0) (c .put2 .result .at) (body (origin .args .mode) (origin .args .chars .now))
+  after-count =
+      going-field _ _ _ (c .before .count-width .result) (c .before .before .narrow2 .result) _ (after-mode (c .before)) refl (origin .pre .1 .1 .fit)
+      (c .put2 .ensures .1) (c .put2 .ensures .0)
 
 narrow-requires : tie.Need-narrow-requires
 narrow-requires c κs = c .before .before .before .pre .0
 
 put-requires : tie.Need-put-requires
 put-requires c κs =
-    let s = c .before .before .before .before in (
-      omega arith,
-      (
-        s .pre .1 .1 .few,
-        going-room _ _ _ 4 (c .narrow .result) _ (going-start (s .args .out .now) (s .args .cursor .at) (segmentBits (s .args .v) (s .args .mode) (s .args .chars .now)) (λ i l. omega (arith, c .before .before .slice-known .given i)))
-            (split (s .args .v) (s .args .mode) _ (s .args .chars .now) (c .narrow .ensures)) (s .pre .1 .1 .fit),
-      ),
-    )
+    let s = start c in
+    (omega arith, (s .pre .1 .1 .few, going-room _ _ _ 4 (c .narrow .result) _ (begun c) (parted c) (s .pre .1 .1 .fit)))
 
 narrow-requires-2 : tie.Need-narrow-requires-2
-narrow-requires-2 c κs = c .before .before .before .before .before .before .before .before .pre .1 .0
+narrow-requires-2 c κs = start (c .before .before .before .before) .pre .1 .0
 
 count-width-requires : tie.Need-count-width-requires
 count-width-requires c κs = search needs
 
 put-requires-2 : tie.Need-put-requires-2
 put-requires-2 c κs =
-    let s = c .before .before .before .before .before .before .before .before .before .before in
-    let g = after-mode (c .before .before .before) in (
+    let s = from c in (
       rw (c .count-width .ensures) (count-width-le (s .args .v) (s .args .mode)),
       (
-        omega (arith, s .pre .1 .1 .few, g .same),
-        going-room _ _ _ (c .count-width .result) (c .before .narrow2 .result) _ g
-            (counted (s .args .v) (s .args .mode) _ _ (s .args .chars .now) (c .count-width .ensures) (c .before .narrow2 .ensures)) (s .pre .1 .1 .fit),
+        omega (arith, s .pre .1 .1 .few, after-mode c .same),
+        going-room _ _ _ (c .count-width .result) (c .before .narrow2 .result) _ (after-mode c) refl (s .pre .1 .1 .fit),
       ),
     )
 
 put-body-requires : tie.Need-put-body-requires
-put-body-requires c κs = going-rest _ _ _ (after-count (c .before)) (c .before .before .before .before .before .before .before .before .before .before .before .before .before .before .pre .1 .1)
+put-body-requires c κs = let d = c .before .before .before in going-rest _ _ _ (after-count d) (origin d .pre .1 .1)
 
 same-length : tie.Need-same-length
-same-length c = c .before .before .put-body .kept .1 .1 .1 .0 ∙ after-count (c .before .before .before .before) .same
+same-length c =
+    let d = c .before .before .before .before .before .before in
+    c .before .before .put-body .kept .1 .1 .1 .0 ∙ after-count d .same
 
 returns : tie.Need-returns
-returns c = going-put _ _ _ (after-count (c .before .before .before .before)) (c .before .before .put-body .ensures)
+returns c =
+    let d = c .before .before .before .before .before .before in
+    going-put _ _ _ (after-count d) (c .before .before .put-body .ensures)
 
 pub put-segment-spec : {M : Type 1} → statement M
 put-segment-spec =

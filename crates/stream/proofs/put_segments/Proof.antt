@@ -1,8 +1,7 @@
 -- `stream::put_segments` meets its contract. The invariant: all is put but the segments of the pairs that are left.
--- Assumes nothing.
 use mathlib.Core.Path.{_≡_}
-use mathlib.Core.List.{_++_}
-use Prim.Native.Nat.{_+_, _-_, _≤_, _<_}
+use mathlib.Core.List.{List, _++_}
+use Prim.Native.Nat.{ℕ, _+_, _-_, _≤_, _<_}
 use native.Mathlib.Omega.{arith}
 use lib.ListN.{length, take, drop}
 use borrow.Author.Needs.{needs}
@@ -16,7 +15,10 @@ use Rattle.stream.proofs.put_segments.Statement.{statement}
 use Rattle.stream.proofs.put_segments.Tie as tie
 
 abbrev Inv-loop : tie.InvT-loop
-Inv-loop payload list v out₀ c₀ p₀ i₀ out c p i = (i ≤ length list) × ((p + counts (drop i list) ≡ length payload) × Going out₀ 0 (segments v list payload) out (c .at) (segments v (drop i list) (drop p payload)))
+Inv-loop payload list v out₀ c₀ p₀ i₀ out c p i =
+    (i ≤ length list)
+    × ((p + counts (drop i list) ≡ length payload)
+    × Going out₀ 0 (segments v list payload) out (c .at) (segments v (drop i list) (drop p payload)))
 
 abbrev μ-loop : tie.MeasureT-loop
 μ-loop payload list v out₀ c₀ p₀ i₀ out c p i = length list - i
@@ -39,11 +41,19 @@ shared-slice-read-wide c = omega arith
 wide-requires : tie.Need-wide-requires Inv-loop μ-loop
 wide-requires c κs = search needs
 
+-- a turn whose count is known: the payload has the bytes of its segment and of those that are left
+module _ (c : tie.After-wide Inv-loop μ-loop) where
+  abbrev turn : tie.At-loop Inv-loop μ-loop
+  turn = c .before .before .before
+
+  abbrev start : tie.Start Inv-loop μ-loop
+  start = turn .before .before .before .before
+
+  counted : turn .loop .p + (c .wide .result + counts (drop (turn .loop .i + 2) (start .args .list .now))) ≡ length (start .args .payload .now)
+  counted = omega (arith, turn .loop .inv .1 .0, counts-more (start .args .list .now) (turn .loop .i) (omega arith), c .wide .ensures)
+
 add-end : tie.Need-add-end Inv-loop μ-loop
-add-end c =
-    let l = c .before .before .before .loop in
-    let a = c .before .before .before .before .before .before .before .args in
-    omega (arith, l .inv .1 .0, counts-more (a .list .now) (l .i) (omega arith), c .wide .ensures)
+add-end c = omega (arith, counted c)
 
 mul-wide-2 : tie.Need-mul-wide-2 Inv-loop μ-loop
 mul-wide-2 c = omega arith
@@ -61,36 +71,37 @@ part-put-segment-start : tie.Need-part-put-segment-start Inv-loop μ-loop
 part-put-segment-start c = omega arith
 
 part-put-segment-end : tie.Need-part-put-segment-end Inv-loop μ-loop
-part-put-segment-end c =
-    let k = c .before .before in
-    let l = k .before .before .before .loop in
-    let a = k .before .before .before .before .before .before .before .args in
-    omega (arith, l .inv .1 .0, counts-more (a .list .now) (l .i) (omega arith), k .wide .ensures)
+part-put-segment-end c = omega (arith, counted (c .before .before))
 
 -- the segment of the turn, and the segments after it
-piece : (c : tie.After-put-segment-arg2 Inv-loop μ-loop)
-    → let l = c .before .before .before .before .before .before .before .loop in
-    let a = c .before .before .before .before .before .before .before .before .before .before .before .args in
-    let count = c .before .before .before .before .wide .result in
-    segments (a .v) (drop (l .i) (a .list .now)) (drop (l .p) (a .payload .now))
-    ≡ segmentBits (a .v) (c .before .before .wide2 .result) (take (l .p + count - l .p) (drop (l .p) (a .payload .now)))
-    ++ segments (a .v) (drop (l .i + 2) (a .list .now)) (drop (l .p + count) (a .payload .now))
-piece c =
-    let l = c .before .before .before .before .before .before .before .loop in
-    let a = c .before .before .before .before .before .before .before .before .before .before .before .args in
-    segments-piece (a .list .now) (l .i) (a .v) (a .payload .now) (l .p) _ _ (omega arith) (omega (arith, l .inv .1 .0)) (c .before .before .before .before .wide .ensures) (c .before .before .wide2 .ensures)
+module _ (c : tie.After-wide2 Inv-loop μ-loop) where
+  abbrev sized : tie.After-wide Inv-loop μ-loop
+  sized = c .before .before
+
+  abbrev chars : List ℕ
+  chars = let p = turn sized .loop .p in take (p + sized .wide .result - p) (drop p (start sized .args .payload .now))
+
+  piece : let t = turn sized .loop in
+      let a = start sized .args in
+      segments (a .v) (drop (t .i) (a .list .now)) (drop (t .p) (a .payload .now))
+      ≡ segmentBits (a .v) (c .wide2 .result) chars
+      ++ segments (a .v) (drop (t .i + 2) (a .list .now)) (drop (t .p + sized .wide .result) (a .payload .now))
+  piece =
+      let t = turn sized .loop in
+      let a = start sized .args in
+      segments-piece (a .list .now) (t .i) (a .v) (a .payload .now) (t .p) _ _ (omega arith) (omega (arith, t .inv .1 .0)) (sized .wide .ensures) (c .wide2 .ensures)
 
 put-segment-requires : tie.Need-put-segment-requires Inv-loop μ-loop
 put-segment-requires c κs =
-    let k = c .before .before .before .before in
-    let l = k .before .before .before .loop in
-    let s = k .before .before .before .before .before .before .before in
-    let a = s .args in
-    let count : k .wide .result < 65536 = omega (arith, k .wide .ensures, k .before .shared-slice-known3 .given (l .i + 1)) in (
-      omega (arith, c .before .before .wide2 .ensures, c .before .before .before .shared-slice-known4 .given (l .i)),
+    let d = c .before .before in
+    let k = sized d in
+    let t = turn k .loop in
+    let s = start k in
+    let count : k .wide .result < 65536 = omega (arith, k .wide .ensures, k .before .shared-slice-known3 .given (t .i + 1)) in (
+      omega (arith, d .wide2 .ensures, d .before .shared-slice-known4 .given (t .i)),
       (
-        rw (length-part (a .payload .now) (l .p) (k .wide .result) (omega (arith, l .inv .1 .0, counts-more (a .list .now) (l .i) (omega arith), k .wide .ensures))) count,
-        piece-room _ _ _ _ _ (l .inv .1 .1) (piece c) (s .pre .1),
+        rw (length-part (s .args .payload .now) (t .p) (k .wide .result) (omega (arith, counted k))) count,
+        piece-room _ _ _ _ _ (t .inv .1 .1) (piece d) (s .pre .1),
       ),
     )
 
@@ -102,15 +113,14 @@ loop-less c = omega arith
 
 loop-again : tie.Need-loop-again Inv-loop μ-loop
 loop-again c =
-    let q = c .before .before .before in
-    let k = q .before .before .before .before in
-    let l = k .before .before .before .loop in
-    let s = k .before .before .before .before .before .before .before in
-    let a = s .args in (
+    let d = c .before .before .before .before .before in
+    let k = sized d in
+    let t = turn k .loop in
+    let s = start k in (
       omega arith,
       (
-        omega (arith, l .inv .1 .0, counts-more (a .list .now) (l .i) (omega arith), k .wide .ensures),
-        piece-put _ _ _ _ _ (l .inv .1 .1) (piece q) (segment-le (a .v) (q .before .before .wide2 .result) (take (l .p + k .wide .result - l .p) (drop (l .p) (a .payload .now)))) (s .pre .1) (c .before .before .put-segment .ensures),
+        omega (arith, counted k),
+        piece-put _ _ _ _ _ (t .inv .1 .1) (piece d) (segment-le (s .args .v) (d .wide2 .result) (chars d)) (s .pre .1) (c .before .before .put-segment .ensures),
       ),
     )
 

@@ -1,5 +1,4 @@
 -- `stream::segment_width` meets its contract.
--- Assumes nothing.
 use native.Mathlib.Omega.{arith}
 use borrow.Author.Needs.{needs}
 use Rattle.stream.proofs.Widths.{count-width-le, body-width-le}

@@ -1,5 +1,4 @@
 -- `stream::three_digits` meets its contract.
--- Assumes nothing.
 use Prim.Native.Nat.{_+_}
 use native.Mathlib.Omega.{arith}
 use lib.ListN.{getD}

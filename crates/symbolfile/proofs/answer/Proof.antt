@@ -1,7 +1,8 @@
 -- `symbolfile::answer` meets its contract: a file that is no symbol file is refusal 17, else the reader answers.
--- Assumes nothing.
 use mathlib.Core.Path.{_≡_, sym, _∙_}
 use mathlib.Core.Bool.{true}
+use mathlib.Core.List.{List}
+use Prim.Native.Nat.{ℕ}
 use borrow.Author.Tests.{not-true, not-false}
 use borrow.Author.Needs.{needs}
 use Rattle.symbolfile.specs.SymbolFile.{whole}
@@ -21,8 +22,12 @@ same-length c = search needs
 returns : tie.Need-returns
 returns c = no-symbol _ _ _ _ (sym (c .before .before .before .before .before .is-whole .ensures) ∙ not-true _ (c .before .before .before .before .if1 .taken)) (c .before .before .print-refusal .ensures)
 
+-- the file, past the test
+abbrev held : tie.Else1 → List ℕ
+held c = c .before .before .before .before .args .file .now
+
 -- what is known past the test
-known : (c : tie.Else1) → whole (c .before .before .before .before .args .file .now) ≡ true
+known : (c : tie.Else1) → whole (held c) ≡ true
 known c = sym (c .before .is-whole .ensures) ∙ not-false _ (c .if1 .left)
 
 sub-print-answer : tie.Need-sub-print-answer
@@ -48,8 +53,8 @@ same-length-2 c = search needs
 
 returns-2 : tie.Need-returns-2
 returns-2 c =
-    let f = c .before .before .before .before .before .before .before .before .before .before .before .before .before .args .file .now in
-    symbol _ _ _ _ (known (c .before .before .before .before .before .before .before .before .before)) (rw (rest f 6) at (c .before .before .before .before .print-answer .ensures))
+    let past = c .before .before .before .before .before .before .before .before .before in
+    symbol _ _ _ _ (known past) (rw (rest (held past) 6) at (c .before .before .before .before .print-answer .ensures))
 
 pub answer-spec : {M : Type 1} → statement M
 answer-spec =

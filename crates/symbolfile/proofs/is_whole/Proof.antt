@@ -1,11 +1,11 @@
 -- `symbolfile::is_whole` meets its contract: each test that fails makes the file no symbol file, and the last one decides.
--- Assumes nothing.
-use mathlib.Core.Path.{sym, _∙_}
+use mathlib.Core.Path.{sym}
+use Prim.Native.Nat.{ℕ, _*_, _≤_}
 use native.Mathlib.Omega.{arith}
 use lib.ListN.{getD}
 use borrow.Author.Needs.{needs}
-use borrow.Author.Tests.{eq-eqb, ne-eqb}
-use Rattle.symbolfile.proofs.Header.{tests, short, decided, square-most}
+use Rattle.symbolfile.specs.SymbolFile.{mark}
+use Rattle.symbolfile.proofs.Header.{short, wrong, decided, square-most}
 use Rattle.symbolfile.proofs.is_whole.Statement.{statement}
 use Rattle.symbolfile.proofs.is_whole.Tie as tie
 
@@ -16,31 +16,43 @@ shared-slice-read-if2 : tie.Need-shared-slice-read-if2
 shared-slice-read-if2 c = search needs
 
 returns-2 : tie.Need-returns-2
-returns-2 c = sym (tests (c .before .before .before .args .file .now) (omega arith) ∙ simp (ne-eqb _ _ (c .if2 .taken)))
+unfolding mark
+returns-2 c = sym (wrong _ 0 (omega arith) (c .if2 .taken))
 
 shared-slice-read-if3 : tie.Need-shared-slice-read-if3
 shared-slice-read-if3 c = search needs
 
 returns-3 : tie.Need-returns-3
-returns-3 c = sym (tests (c .before .before .before .before .before .args .file .now) (omega arith) ∙ simp (eq-eqb _ _ (c .before .before .if2 .left), ne-eqb _ _ (c .if3 .taken)))
+unfolding mark
+returns-3 c = sym (wrong _ 1 (omega arith) (c .if3 .taken))
 
 shared-slice-read-if4 : tie.Need-shared-slice-read-if4
 shared-slice-read-if4 c = search needs
 
 returns-4 : tie.Need-returns-4
-returns-4 c = sym (tests (c .before .before .before .before .before .before .before .args .file .now) (omega arith) ∙ simp (eq-eqb _ _ (c .before .before .before .before .if2 .left), eq-eqb _ _ (c .before .before .if3 .left), ne-eqb _ _ (c .if4 .taken)))
+unfolding mark
+returns-4 c = sym (wrong _ 2 (omega arith) (c .if4 .taken))
 
 shared-slice-read-if5 : tie.Need-shared-slice-read-if5
 shared-slice-read-if5 c = search needs
 
 returns-5 : tie.Need-returns-5
-returns-5 c = sym (tests (c .before .before .before .before .before .before .before .before .before .args .file .now) (omega arith) ∙ simp (eq-eqb _ _ (c .before .before .before .before .before .before .if2 .left), eq-eqb _ _ (c .before .before .before .before .if3 .left), eq-eqb _ _ (c .before .before .if4 .left), ne-eqb _ _ (c .if5 .taken)))
+unfolding mark
+returns-5 c = sym (wrong _ 3 (omega arith) (c .if5 .taken))
 
 shared-slice-read-if6 : tie.Need-shared-slice-read-if6
 shared-slice-read-if6 c = search needs
 
 returns-6 : tie.Need-returns-6
-returns-6 c = sym (tests (c .before .before .before .before .before .before .before .before .before .before .before .args .file .now) (omega arith) ∙ simp (eq-eqb _ _ (c .before .before .before .before .before .before .before .before .if2 .left), eq-eqb _ _ (c .before .before .before .before .before .before .if3 .left), eq-eqb _ _ (c .before .before .before .before .if4 .left), eq-eqb _ _ (c .before .before .if5 .left), ne-eqb _ _ (c .if6 .taken)))
+unfolding mark
+returns-6 c = sym (wrong _ 4 (omega arith) (c .if6 .taken))
+
+-- where the first four tests have passed, from where the sixth byte has been read
+abbrev four : tie.After-shared-slice-known6 → tie.Else4
+four c = c .before .before .before .before .before
+
+abbrev side : tie.After-shared-slice-known6 → ℕ
+side c = getD (four c .before .before .before .before .before .before .before .args .file .now) 5 0
 
 shared-slice-read-side : tie.Need-shared-slice-read-side
 shared-slice-read-side c = search needs
@@ -48,15 +60,23 @@ shared-slice-read-side c = search needs
 cast-side : tie.Need-cast-side
 cast-side c = omega (arith, c .shared-slice-known6 .given 5)
 
+-- the side's square, where the file's sixth byte has been read
+small : (c : tie.After-shared-slice-known6) → side c * side c ≤ 65025
+small c = square-most (side c) (omega (arith, c .shared-slice-known6 .given 5))
+
 mul-result : tie.Need-mul-result
-mul-result c = omega (arith, square-most (getD (c .before .before .before .before .before .before .before .before .before .before .before .before .args .file .now) 5 0) (omega (arith, c .shared-slice-known6 .given 5)))
+mul-result c = omega (arith, small c)
 
 add-result : tie.Need-add-result
-add-result c = omega (arith, square-most (getD (c .before .before .before .before .before .before .before .before .before .before .before .before .args .file .now) 5 0) (omega (arith, c .shared-slice-known6 .given 5)))
+add-result c = omega (arith, small c)
 
 returns-7 : tie.Need-returns-7
 returns-7 c =
-    sym (decided _ (omega arith) (c .before .before .before .before .before .before .before .before .before .if2 .left) (c .before .before .before .before .before .before .before .if3 .left) (c .before .before .before .before .before .if4 .left) (c .before .before .before .if5 .left) (c .before .if6 .left))
+    let past = four c in
+    sym (
+    decided _ (omega arith) (past .before .before .before .before .if2 .left) (past .before .before .if3 .left) (past .if4 .left)
+    (c .before .before .before .if5 .left) (c .before .if6 .left)
+    )
 
 pub is-whole-spec : {M : Type 1} → statement M
 is-whole-spec =

@@ -1,5 +1,4 @@
 -- `symbolfile::print_answer` meets its contract: what the reader tells or refuses is what is printed.
--- Assumes nothing.
 use mathlib.Core.Path.{sym}
 use Prim.Native.Nat.{_*_, _≤_}
 use native.Mathlib.Omega.{arith}
@@ -12,18 +11,27 @@ use Rattle.symbolfile.proofs.Told.{Shown, told, denied}
 use Rattle.symbolfile.proofs.print_answer.Statement.{statement}
 use Rattle.symbolfile.proofs.print_answer.Tie as tie
 
+-- where the function begins, from where the reader has answered
+abbrev start : tie.After-read → tie.Start
+start c = c .before .before .before .before .before .before .before
+
+-- where the reader has answered, from where it has told a reading
+abbrev asked : tie.After-r → tie.After-read
+asked c = c .before .before .before .before .before .before
+
 -- what is known where the reader has told a reading
-known : (c : tie.After-r) → Shown (c .before .before .before .before .before .before .before .before .before .before .before .before .before .args .modules .now) (c .r .given .0 .0) (c .before .before .before .before .before .before .read .last .1 .0) (c .before .before .before .before .before .before .read .last .1 .1 .0)
-known c =
-    let s = c .before .before .before .before .before .before .before .before .before .before .before .before .before in
-    let read = c .before .before .before .before .before .before .read in
-    told _ _ _ _ _ (s .pre .0) (s .pre .1 .0) (read .kept .1 .0) (read .kept .1 .1 .0) _ _ (c .r .given .1) (read .ensures)
+module _ (c : tie.After-r) where
+  known : Shown (start (asked c) .args .modules .now) (c .r .given .0 .0) (asked c .read .last .1 .0) (asked c .read .last .1 .1 .0)
+  known =
+      let s = start (asked c) in
+      let read = asked c .read in
+      told _ _ _ _ _ (s .pre .0) (s .pre .1 .0) (read .kept .1 .0) (read .kept .1 .1 .0) _ _ (c .r .given .1) (read .ensures)
 
-payload-room : (c : tie.After-r) → c .r .given .0 .0 .payload ≤ length (c .before .before .before .before .before .before .read .last .1 .0)
-payload-room c = omega (arith, known c .payload-fits, c .before .before .before .before .before .before .read .kept .1 .0, c .before .before .before .before .before .before .before .before .before .before .before .before .before .pre .0)
+  payload-room : c .r .given .0 .0 .payload ≤ length (asked c .read .last .1 .0)
+  payload-room = omega (arith, known .payload-fits, asked c .read .kept .1 .0, start (asked c) .pre .0)
 
-list-room : (c : tie.After-r) → 2 * c .r .given .0 .0 .segments ≤ length (c .before .before .before .before .before .before .read .last .1 .1 .0)
-list-room c = omega (arith, known c .list-fits, c .before .before .before .before .before .before .read .kept .1 .1 .0, c .before .before .before .before .before .before .before .before .before .before .before .before .before .pre .1 .0)
+  list-room : 2 * c .r .given .0 .0 .segments ≤ length (asked c .read .last .1 .1 .0)
+  list-room = omega (arith, known .list-fits, asked c .read .kept .1 .1 .0, start (asked c) .pre .1 .0)
 
 read-requires : tie.Need-read-requires
 read-requires c κs = search needs
@@ -57,11 +65,15 @@ slice-aggregate-print-reading-2 c = sym (length-take-le _ _ (list-room (c .befor
 
 print-reading-requires : tie.Need-print-reading-requires
 print-reading-requires c κs =
-    let k = known (c .before .before .before .before .before) in (
+    let told = c .before .before .before .before .before in
+    let k = known told in (
       omega (arith, reads-lawful _ _ _ _ _ _ _ _ _ _ (k .reads) .lawful .levels),
       (
-        rw (length-take-le _ _ (payload-room (c .before .before .before .before .before))) (k .payload-fits),
-        (rw (length-take-le _ _ (list-room (c .before .before .before .before .before))) (k .list-fits), c .before .before .before .before .before .before .before .before .before .before .before .before .before .before .before .before .before .before .pre .1 .1),
+        k .fills,
+        (
+          rw (length-take-le _ _ (payload-room told)) (k .payload-fits),
+          (rw (length-take-le _ _ (list-room told)) (k .list-fits), start (asked told) .pre .1 .1),
+        ),
       ),
     )
 
@@ -76,11 +88,12 @@ same-length-3 c = search needs
 
 returns : tie.Need-returns
 returns c =
-    let n = c .before .before .before .before .before .n in
-    let s = c .before .before .before .before .before .before .before .before .before .before .before .before .before .before .before .before .before .before in
+    let refused = c .before .before .before .before .before in
+    let asked = refused .before .before .before .before .before .before in
+    let s = start asked in
     record {
-      answer = Refused (n .given .0 .0);
-      reads = denied _ _ _ _ _ _ _ (n .given .1) (s .pre .0) (s .pre .1 .0) (c .before .before .before .before .before .before .before .before .before .before .before .read .ensures);
+      answer = Refused (refused .n .given .0 .0);
+      reads = denied _ _ _ _ _ _ _ (refused .n .given .1) (s .pre .0) (s .pre .1 .0) (asked .read .ensures);
       holds = c .before .before .print-refusal .ensures;
     }
 

@@ -1,5 +1,4 @@
 -- `tables::block_length` meets its contract: it is under 256.
--- Assumes nothing.
 use native.Mathlib.Omega.{arith}
 use Rattle.tables.specs.Tables.{blockLength}
 use Rattle.tables.proofs.Rules.{block-length-most}

@@ -1,5 +1,4 @@
 -- `tables::block_start` meets its contract: what a block starts at has a closed form, and is at most the data.
--- Assumes nothing.
 use mathlib.Core.Path.{sym}
 use Prim.Native.Nat.{ℕ, _+_, _-_, _*_, _≤_}
 use native.Mathlib.Omega.{arith}

@@ -1,5 +1,4 @@
 -- `tables::centre` meets its contract: one test at each entry.
--- Assumes nothing.
 use mathlib.Core.Path.{_≡_, ap, _∙_}
 use mathlib.Core.List.{List, [], _∷_}
 use Prim.Native.Nat.{ℕ, suc, _-_}

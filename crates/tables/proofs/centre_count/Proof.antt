@@ -1,5 +1,4 @@
 -- `tables::centre_count` meets its contract: one test at each version.
--- Assumes nothing.
 use mathlib.Core.Path.{_≡_}
 use mathlib.Core.Bool.{cond}
 use Prim.Native.Nat.{ℕ, _≤_}

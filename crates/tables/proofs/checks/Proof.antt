@@ -1,5 +1,4 @@
 -- `tables::checks` meets its contract: the definition's table has an empty row in front.
--- Assumes nothing.
 use mathlib.Core.Path.{ap, _∙_}
 use mathlib.Core.List.{List, []}
 use Prim.Native.Nat.{ℕ}

@@ -1,5 +1,4 @@
 -- `tables::count_width` meets its contract: it takes the definition's cases in their order.
--- Assumes nothing.
 use borrow.Author.Tests.{eq-eqb, ne-eqb, le-leb, lt-leb}
 use Rattle.tables.specs.Tables.{countWidth}
 use Rattle.tables.proofs.count_width.Statement.{statement}

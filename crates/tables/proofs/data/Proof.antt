@@ -1,5 +1,4 @@
 -- `tables::data` meets its contract, by the rules of the table.
--- Assumes nothing.
 use native.Mathlib.Omega.{arith}
 use Rattle.tables.specs.Tables.{dataCount, total}
 use Rattle.tables.proofs.Rules.{checks-fit, total-most}

@@ -1,5 +1,4 @@
 -- `tables::room` meets its contract.
--- Assumes nothing.
 use Rattle.tables.specs.Tables.{room}
 use borrow.Author.Needs.{needs}
 use Rattle.tables.proofs.room.Statement.{statement}

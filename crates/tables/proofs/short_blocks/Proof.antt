@@ -1,5 +1,4 @@
 -- `tables::short_blocks` meets its contract: there is a block.
--- Assumes nothing.
 use Prim.Native.Nat.{_-_}
 use native.Mathlib.Nat.{mod-lt, le-of-lt}
 use Rattle.tables.specs.Tables.{shortBlocks}

@@ -1,5 +1,4 @@
 -- `tables::short_length` meets its contract: there is a block.
--- Assumes nothing.
 use Rattle.tables.specs.Tables.{shortLength}
 use Rattle.tables.proofs.Rules.{blocks-least}
 use borrow.Author.Needs.{needs}

@@ -1,5 +1,4 @@
 -- `tables::version_of` meets its contract. The loop's invariant: the length is that of no version passed.
--- Assumes nothing.
 use mathlib.Core.Path.{sym}
 use Rattle.tables.specs.Tables.{side}
 use Prim.Native.Nat.{ℕ, _-_, _*_, _^_, _≤_, _<_}
@@ -16,10 +15,10 @@ small : (v : ℕ) → v ≤ 10 → side v * side v < 2 ^ 64
 small v h = ltb→lt _ _ (at 11 (λ v. ltb (side v * side v) (2 ^ 64)) tt v (omega arith))
 
 abbrev Inv-loop : tie.InvT-loop
-Inv-loop length v₀ v = (1 ≤ v) × (v ≤ 11) × ((w : ℕ) → w < v → Square length w → ⊥)
+Inv-loop len v₀ v = (1 ≤ v) × (v ≤ 11) × ((w : ℕ) → w < v → Square len w → ⊥)
 
 abbrev μ-loop : tie.MeasureT-loop
-μ-loop length v₀ v = 11 - v
+μ-loop len v₀ v = 11 - v
 
 loop-holds : tie.Need-loop-holds Inv-loop μ-loop
 loop-holds c = (search needs, search needs, λ w h s. omega (arith, s .least))

@@ -1,5 +1,4 @@
 -- `text::put_digits` meets its contract: the digits before the last, by itself with one digit less, and then the last.
--- Assumes nothing.
 use mathlib.Core.Path.{_∙_}
 use Prim.Native.Nat.{ℕ, _-_, _/_, _<_}
 use native.Mathlib.Omega.{arith}
@@ -124,9 +123,10 @@ put-digits-returns-3 : (t : ℕ) → put-digits-lts.Need-returns-3 (
   put-digits.Post,
 ) (put-digits-at t) put-digits.Post
 put-digits-returns-3 t c =
-    let s = c .before .before .before .before .before .before .before .before .before .before .before in
-    rw (front (s .args .n) (s .args .x) (c .before .before .before .before .before .before .before .before .before .if1 .left) (omega arith))
-    (then (c .before .before .before .before .before .before .put-digits .ensures) (c .before .before .put-byte2 .ensures))
+    let d = c .before .before .before .before .before .before in
+    let s = d .before .before .before .before .before in
+    rw (front (s .args .n) (s .args .x) (d .before .before .before .if1 .left) (omega arith))
+    (then (d .put-digits .ensures) (c .before .before .put-byte2 .ensures))
 
 pub +put-digits-spec : {M : Type 1} → statement M
 +put-digits-spec = close μ-put-digits λ t. put-digits-lts.spec (

@@ -1,5 +1,4 @@
 -- `text::letter_of` meets its contract: level 3 is the one that is left.
--- Assumes nothing.
 use mathlib.Core.Path.{_≡_}
 use borrow.Author.Needs.{needs}
 use native.Mathlib.Omega.{arith}

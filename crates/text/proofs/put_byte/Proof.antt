@@ -1,5 +1,4 @@
 -- `text::put_byte` meets its contract: one byte is stored.
--- Assumes nothing.
 use borrow.Author.Needs.{needs}
 use Rattle.text.proofs.Pasting.{stored}
 use Rattle.text.proofs.put_byte.Statement.{statement}

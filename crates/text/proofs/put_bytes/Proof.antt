@@ -1,5 +1,4 @@
 -- `text::put_bytes` meets its contract: before turn k the first k bytes are written and the others are left.
--- Assumes nothing.
 use Prim.Native.Nat.{_-_, _≤_}
 use native.Mathlib.Omega.{arith}
 use lib.ListN.{length, drop}

@@ -1,5 +1,4 @@
 -- `text::put_field` meets its contract: the name, and then the number.
--- Assumes nothing.
 use borrow.Author.Needs.{needs}
 use Rattle.text.proofs.Pasting.{then, room-first, room-next}
 use Rattle.text.proofs.put_field.Statement.{statement}

@@ -1,11 +1,11 @@
 -- `text::put_hex` meets its contract: before turn k the first k bytes are written in hex and the others are left.
--- Assumes nothing.
 use mathlib.Core.Path.{ap}
-use Prim.Native.Nat.{_-_, _≤_}
+use mathlib.Core.List.{List, _∷_}
+use Prim.Native.Nat.{ℕ, _+_, _-_, _/_, _%_, _≤_}
 use native.Mathlib.Omega.{arith}
-use lib.ListN.{length, drop}
-use Rattle.text.specs.Text.{hex}
-use Rattle.text.proofs.Pasting.{Progress, start, said, room, more, done, kept}
+use lib.ListN.{length, getD, drop}
+use Rattle.text.specs.Text.{hex, hexDigit}
+use Rattle.text.proofs.Pasting.{Progress, start as start-writing, said, room, more, done, kept}
 use Rattle.text.proofs.Turns.{hex-turn, none-left}
 use Rattle.text.proofs.put_hex.Statement.{statement}
 use Rattle.text.proofs.put_hex.Tie as tie
@@ -16,8 +16,33 @@ Inv-loop out₀ at bytes next₀ k₀ out next k = (k ≤ length bytes) × Progr
 abbrev μ-loop : tie.MeasureT-loop
 μ-loop out₀ at bytes next₀ k₀ out next k = length bytes - k
 
+-- a turn: where it starts from, its byte, and that all is written but this rest
+module _ (c : tie.In-loop Inv-loop μ-loop) where
+  abbrev start : tie.Start Inv-loop μ-loop
+  start = c .before .before .before .before
+
+  abbrev byte : ℕ
+  byte = getD (start .args .bytes .now) (c .before .loop .k) 0
+
+  abbrev later : List ℕ
+  later = hex (drop (c .before .loop .k + 1) (start .args .bytes .now))
+
+  abbrev Left : (after : List ℕ) (next : ℕ) (rest : List ℕ) → Type 0
+  Left = Progress (start .args .out .now) (start .args .at) (hex (start .args .bytes .now))
+
+  begun : Left (c .before .loop .out) (c .before .loop .next) (hexDigit (byte / 16) ∷ hexDigit (byte % 16) ∷ later)
+  begun = said (hex-turn (start .args .bytes .now) (c .before .loop .k) (omega arith)) (c .before .loop .inv .1)
+
+-- the turn of a point, and what is left there
+abbrev turn : tie.After-put-byte Inv-loop μ-loop → tie.In-loop Inv-loop μ-loop
+turn c = c .before .before .before .before
+
+high : (c : tie.After-put-byte Inv-loop μ-loop)
+    → Left (turn c) (c .put-byte .last .0) (c .put-byte .result) (hexDigit (byte (turn c) % 16) ∷ later (turn c))
+high c = more _ _ (begun (turn c)) (rw (c .before .hex-digit .ensures) at (c .put-byte .ensures))
+
 loop-holds : tie.Need-loop-holds Inv-loop μ-loop
-loop-holds c = (omega arith, start _ _ _)
+loop-holds c = (omega arith, start-writing _ _ _)
 
 shared-slice-read-b : tie.Need-shared-slice-read-b Inv-loop μ-loop
 shared-slice-read-b c = omega arith
@@ -27,19 +52,16 @@ hex-digit-requires c κs = omega (arith, c .before .shared-slice-known2 .given (
 
 put-byte-requires : tie.Need-put-byte-requires Inv-loop μ-loop
 put-byte-requires c κs =
-    let s = c .before .before .before .before .before .before .before .args .bytes .now in
-    let l = c .before .before .before .before .loop in
-    rw (c .hex-digit .ensures) (room _ _ (c .before .before .before .before .before .before .before .pre) (said (hex-turn s (l .k) (omega arith)) (l .inv .1)))
+    let d = c .before .before .before in
+    rw (c .hex-digit .ensures) (room _ _ (start d .pre) (begun d))
 
 hex-digit-requires-2 : tie.Need-hex-digit-requires-2 Inv-loop μ-loop
 hex-digit-requires-2 c κs = omega arith
 
 put-byte-requires-2 : tie.Need-put-byte-requires-2 Inv-loop μ-loop
 put-byte-requires-2 c κs =
-    let s = c .before .before .before .before .before .before .before .before .before .before .before .before .args .bytes .now in
-    let l = c .before .before .before .before .before .before .before .before .before .loop in
-    let high = rw (c .before .before .before .before .before .hex-digit .ensures) at (c .before .before .before .before .put-byte .ensures) in
-    rw (c .hex-digit2 .ensures) (room _ _ (c .before .before .before .before .before .before .before .before .before .before .before .before .pre) (more _ _ (said (hex-turn s (l .k) (omega arith)) (l .inv .1)) high))
+    let d = c .before .before .before .before in
+    rw (c .hex-digit2 .ensures) (room _ _ (start (turn d) .pre) (high d))
 
 add-k : tie.Need-add-k Inv-loop μ-loop
 add-k c = omega arith
@@ -49,11 +71,9 @@ loop-less c = omega arith
 
 loop-again : tie.Need-loop-again Inv-loop μ-loop
 loop-again c =
-    let s = c .before .before .before .before .before .before .before .before .before .before .before .before .before .before .before .args .bytes .now in
-    let l = c .before .before .before .before .before .before .before .before .before .before .before .before .loop in
-    let high = rw (c .before .before .before .before .before .before .before .before .hex-digit .ensures) at (c .before .before .before .before .before .before .before .put-byte .ensures) in
+    let d = c .before .before .before .before .before .before .before in
     let low = rw (c .before .before .before .hex-digit2 .ensures) at (c .before .before .put-byte2 .ensures) in
-    (omega arith, more _ _ (more _ _ (said (hex-turn s (l .k) (omega arith)) (l .inv .1)) high) low)
+    (omega arith, more _ _ (high d) low)
 
 same-length : tie.Need-same-length Inv-loop μ-loop
 same-length c = kept (c .before .loop .inv .1 .written)

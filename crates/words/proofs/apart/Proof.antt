@@ -1,5 +1,4 @@
 -- `words::apart` meets its contract: what is under the readable bits has no more bits than they.
--- Assumes nothing.
 use lib.Bits.{bitXor}
 use Rattle.words.proofs.Distance.{ones-under, ones-under-le}
 use Rattle.words.proofs.apart.Statement.{statement}

@@ -1,5 +1,4 @@
 -- `words::find_version` meets its contract. The loop's invariant: the copy stands for no word that was passed.
--- Assumes nothing.
 use mathlib.Core.Path.{_≡_}
 use native.Mathlib.Omega.{arith}
 use lib.Bits.{bitAnd, bitXor}

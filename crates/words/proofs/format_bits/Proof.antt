@@ -1,5 +1,4 @@
 -- `words::format_bits` meets its contract.
--- Assumes nothing.
 use native.Mathlib.Omega.{arith}
 use Rattle.words.specs.Words.{formatBits}
 use Rattle.words.proofs.Bits.{format-bits-lt}

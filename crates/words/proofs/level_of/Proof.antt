@@ -1,5 +1,4 @@
 -- `words::level_of` meets its contract.
--- Assumes nothing.
 use Rattle.words.specs.Words.{levelOf}
 use borrow.Author.Needs.{needs}
 use Rattle.words.proofs.level_of.Statement.{statement}

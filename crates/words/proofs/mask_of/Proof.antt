@@ -1,5 +1,4 @@
 -- `words::mask_of` meets its contract.
--- Assumes nothing.
 use mathlib.Core.Path.{refl}
 use Rattle.words.specs.Words.{maskOf}
 use borrow.Author.Needs.{needs}

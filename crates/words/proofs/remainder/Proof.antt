@@ -1,5 +1,4 @@
 -- `words::remainder` meets its contract. The loop's invariant: what is left has the remainder that is asked for.
--- Assumes nothing.
 use native.Mathlib.Nat.{not-suc-le-zero, mul-le-mul-left, mod-eq-of-lt}
 use native.Mathlib.Numerals.{sub-one}
 use lib.Arith.{le-zero}

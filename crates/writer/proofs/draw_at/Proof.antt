@@ -1,12 +1,11 @@
 -- `writer::draw_at` meets its contract: the part that is laid is the part that is finished.
--- Assumes nothing.
 use mathlib.Core.Path.{_≡_, refl, sym, ap, ap₂, _∙_}
 use mathlib.Core.List.{List, _++_}
 use Prim.Native.Nat.{ℕ, _*_, _≤_}
 use native.Mathlib.Omega.{arith}
 use lib.ListN.{length, drop}
 use lib.Seq.{length-take-le}
-use Rattle.tables.specs.Tables.{side}
+use Rattle.tables.specs.Tables.{side, mostModules}
 use Rattle.stream.specs.Stream.{dataCodewords}
 use Rattle.blocks.specs.Blocks.{sent}
 use Rattle.modules.specs.Kinds.{finished}
@@ -17,39 +16,60 @@ use borrow.Author.Needs.{needs}
 use Rattle.writer.proofs.draw_at.Statement.{statement}
 use Rattle.writer.proofs.draw_at.Tie as tie
 
-area : (c : tie.After-side) → (c .side .result * c .side .result ≤ 3249) × (c .side .result * c .side .result ≡ side (c .before .before .before .before .before .before .before .args .v) * side (c .before .before .before .before .before .before .before .args .v))
-area c =
-    let e = ap₂ _*_ (c .side .ensures) (c .side .ensures) in
-    (rw e (area-le _ _ (c .before .before .before .before .before .before .before .pre .0)), e)
+-- once the side is known: as many modules as it has
+module _ (s : tie.After-side) where
+  abbrev begun : tie.Start
+  begun = s .before .before .before .before .before .before .before
+
+  abbrev area : ℕ
+  area = s .side .result * s .side .result
+
+  area-of : area ≡ side (begun .args .v) * side (begun .args .v)
+  area-of = ap₂ _*_ (s .side .ensures) (s .side .ensures)
+
+  area-few : area ≤ mostModules
+  area-few = rw area-of (area-le _ _ (begun .pre .0))
+
+  base-long : length (begun .args .base .now) ≡ mostModules
+  base-long = begun .pre .1 .1 .1 .base-long
 
 -- what is laid in the part of `base`, and what follows it
-abbrev written : tie.After-lay-message → List ℕ
-written c = c .lay-message .last .1 .1 .1 .1 .1 .1 .0
+module _ (m : tie.After-lay-message) where
+  abbrev sized : tie.After-side
+  sized = m .before .before .before .before
 
-abbrev left : tie.After-lay-message → List ℕ
-left c = drop (c .before .before .before .before .side .result * c .before .before .before .before .side .result) (c .before .before .before .before .before .before .before .before .before .before .before .args .base .now)
+  abbrev written : List ℕ
+  written = m .lay-message .last .1 .1 .1 .1 .1 .1 .0
 
-filled : (c : tie.After-lay-message) → length (written c) ≡ c .before .before .before .before .side .result * c .before .before .before .before .side .result
-filled c = c .lay-message .kept .1 .1 .1 .1 .1 .1 .0 ∙ length-take-le _ _ (omega (arith, area (c .before .before .before .before) .0, c .before .before .before .before .before .before .before .before .before .before .before .pre .1 .1 .1 .base-long))
+  abbrev left : List ℕ
+  left = drop (area sized) (begun sized .args .base .now)
 
-front : (c : tie.After-lay-message) → Stands (c .before .before .before .before .side .result * c .before .before .before .before .side .result) (written c) (left c) (written c ++ left c)
-front c = stands _ (written c) (left c) _ refl (filled c)
+  filled : length written ≡ area sized
+  filled = m .lay-message .kept .1 .1 .1 .1 .1 .1 .0 ∙ length-take-le _ _ (omega (arith, area-few sized, base-long sized))
+
+  front : Stands (area sized) written left (written ++ left)
+  front = stands _ written left _ refl filled
+
+-- where the message was laid, from where the part is lent again
+abbrev laid-at : tie.After-slice-known7 → tie.After-lay-message
+laid-at c = c .before .before .before .before .before .before
 
 side-requires : tie.Need-side-requires
 side-requires c κs = search needs
 
 mul-n : tie.Need-mul-n
-mul-n c = omega (arith, area c .0)
+mul-n c = omega (arith, area-few c)
 
 slice-relend-prefix-lay-message : tie.Need-slice-relend-prefix-lay-message
-slice-relend-prefix-lay-message c = omega (arith, area (c .before .before) .0, c .before .before .before .before .before .before .before .before .before .pre .1 .1 .1 .base-long)
+slice-relend-prefix-lay-message c = let s = c .before .before in omega (arith, area-few s, base-long s)
 
 slice-aggregate-lay-message : tie.Need-slice-aggregate-lay-message
-slice-aggregate-lay-message c = sym (length-take-le _ _ (omega (arith, area (c .before .before .before) .0, c .before .before .before .before .before .before .before .before .before .before .pre .1 .1 .1 .base-long)))
+slice-aggregate-lay-message c = let s = c .before .before .before in sym (length-take-le _ _ (omega (arith, area-few s, base-long s)))
 
 lay-message-requires : tie.Need-lay-message-requires
 lay-message-requires c κs =
-    let p = c .before .before .before .before .before .before .before .before .before .before .pre in
+    let s = c .before .before .before in
+    let p = begun s .pre in
     let b = p .1 .1 .1 in (
       p .0,
       (
@@ -57,21 +77,21 @@ lay-message-requires c κs =
         record {
           held-long = b .held-long;
           words-long = b .words-long;
-          base-long = length-take-le _ _ (omega (arith, area (c .before .before .before) .0, b .base-long)) ∙ area (c .before .before .before) .1;
+          base-long = length-take-le _ _ (omega (arith, area-few s, base-long s)) ∙ area-of s;
         },
       ),
     )
 
 slice-reshare-prefix-finish-drawn : tie.Need-slice-reshare-prefix-finish-drawn
-slice-reshare-prefix-finish-drawn c = front (c .before .before .before .before .before .before) .long
+slice-reshare-prefix-finish-drawn c = front (laid-at c) .long
 
 slice-aggregate-finish-drawn : tie.Need-slice-aggregate-finish-drawn
-slice-aggregate-finish-drawn c = sym (ap length (front (c .before .before .before .before .before .before .before) .before) ∙ filled (c .before .before .before .before .before .before .before))
+slice-aggregate-finish-drawn c = let m = laid-at (c .before) in sym (ap length (front m .before) ∙ filled m)
 
 finish-drawn-requires : tie.Need-finish-drawn-requires
 finish-drawn-requires c κs =
-    let p = c .before .before .before .before .before .before .before .before .before .before .before .before .before .before .before .before .before .before .before .pre in
-    let m = c .before .before .before .before .before .before .before .before in
+    let m = laid-at (c .before .before) in
+    let p = begun (sized m) .pre in
     (p .0, (rw (front m .before ∙ m .lay-message .ensures) (laid-base _ _ _ (p .0)), (p .1 .1 .0, p .1 .1 .1 .out-long)))
 
 same-length : tie.Need-same-length
@@ -88,16 +108,17 @@ same-length-4 c = search needs
 
 returns : tie.Need-returns
 returns c =
-    let a = c .before .before .before .before .before .before .before .before .before .before .before .before .before .before .before .before .before .before .before .before .before .before .args in
-    let m = c .before .before .before .before .before .before .before .before .before .before .before in
-    let f = c .before .before .finish-drawn in
+    let f = c .before .before in
+    let m = laid-at (f .before .before .before) in
+    let a = begun (sized m) .args in
     let cs = sent (a .v) (a .level) (dataCodewords (a .v) (a .level) (a .list .now) (a .payload .now)) in
     let e = front m .before ∙ m .lay-message .ensures in
     record {
-      choice = f .ensures .choice ∙ ap (maskDrawn (a .v) (a .level) (a .mask)) e ∙ mask-chosen (a .v) (a .level) (a .mask) cs;
+      choice = f .finish-drawn .ensures .choice ∙ ap (maskDrawn (a .v) (a .level) (a .mask)) e ∙ mask-chosen (a .v) (a .level) (a .mask) cs;
       drawing =
-          f .ensures .drawing
-          ∙ ap (λ (b : List ℕ). b ++ drop (side (a .v) * side (a .v)) (a .out .now)) (ap (finished (a .v) (a .level) (f .result)) e ∙ finished-laid (a .v) (a .level) (f .result) cs);
+          f .finish-drawn .ensures .drawing
+          ∙ ap (λ (b : List ℕ). b ++ drop (side (a .v) * side (a .v)) (a .out .now))
+          (ap (finished (a .v) (a .level) (f .finish-drawn .result)) e ∙ finished-laid (a .v) (a .level) (f .finish-drawn .result) cs);
     }
 
 pub draw-at-spec : {M : Type 1} → statement M

@@ -1,5 +1,4 @@
 -- `writer::in_range` meets its contract.
--- Assumes nothing.
 use borrow.Author.Tests.{le-leb, lt-leb}
 use Rattle.writer.specs.Writer.{inRange}
 use Rattle.writer.proofs.in_range.Statement.{statement}

@@ -1,5 +1,4 @@
 -- `writer::least_mask` meets its contract. The invariant: the masks from k on decide, where `least` at `place` leads so far.
--- Assumes nothing.
 use mathlib.Core.Path.{_≡_, refl, sym, _∙_}
 use mathlib.Core.Logic.{⊎-elim}
 use mathlib.Core.List.{List, map}
@@ -20,10 +19,20 @@ abbrev scored : (v level : ℕ) (base : List ℕ) → ℕ → ℕ
 scored v level base k = score (side v) (finished v level k base)
 
 abbrev Inv-loop : tie.InvT-loop
-Inv-loop base v level out₀ least₀ place₀ k₀ out least place k = (k ≤ 8) × ((length out ≡ length out₀) × ((side v * side v ≤ length out) × ((drop (side v * side v) out ≡ drop (side v * side v) out₀) × (leastMask v level base ≡ leastAfter least place k (map (scored v level base) (from k (8 - k)))))))
+Inv-loop base v level out₀ least₀ place₀ k₀ out least place k =
+    (k ≤ 8)
+    × ((length out ≡ length out₀) × ((side v * side v ≤ length out) × ((drop (side v * side v) out ≡ drop (side v * side v) out₀)
+    × (leastMask v level base ≡ leastAfter least place k (map (scored v level base) (from k (8 - k)))))))
 
 abbrev μ-loop : tie.MeasureT-loop
 μ-loop base v level out₀ least₀ place₀ k₀ out least place k = 8 - k
+
+-- the first score, from the head of the loop, and the entry
+abbrev first : tie.At-loop Inv-loop μ-loop → tie.After-score-under Inv-loop μ-loop
+first c = c .before .before .before
+
+abbrev begun : tie.After-score-under Inv-loop μ-loop → tie.Start Inv-loop μ-loop
+begun c = c .before .before .before .before
 
 score-under-requires : tie.Need-score-under-requires Inv-loop μ-loop
 score-under-requires c κs = let p = c .before .before .before .pre in (p .0, (p .1 .0, (omega arith, p .1 .1)))
@@ -31,13 +40,16 @@ score-under-requires c κs = let p = c .before .before .before .pre in (p .0, (p
 loop-holds : tie.Need-loop-holds Inv-loop μ-loop
 unfolding leastMask
 loop-holds c =
+    let start = begun (c .before .before) in
     let u = c .before .before .score-under in
-    let room : side (c .before .before .before .before .before .before .args .v) * side (c .before .before .before .before .before .before .args .v) ≤ length (u .last .1 .1 .1 .1 .0) =
-    rw (u .kept .1 .1 .1 .1 .0) (c .before .before .before .before .before .before .pre .1 .1) in
+    let room : side (start .args .v) * side (start .args .v) ≤ length (u .last .1 .1 .1 .1 .0) = rw (u .kept .1 .1 .1 .1 .0) (start .pre .1 .1) in
     (omega arith, (refl, (room, (refl, rw (u .ensures .0) (leads-first _)))))
 
 score-under-requires-2 : tie.Need-score-under-requires-2 Inv-loop μ-loop
-score-under-requires-2 c κs = let p = c .before .before .before .before .before .before .before .before .before .pre in (p .0, (p .1 .0, (omega arith, c .before .before .loop .inv .1 .1 .0)))
+score-under-requires-2 c κs =
+    let l = c .before .before in
+    let p = begun (first l) .pre in
+    (p .0, (p .1 .0, (omega arith, l .loop .inv .1 .1 .0)))
 
 add-k : tie.Need-add-k Inv-loop μ-loop
 add-k c = omega arith
@@ -47,9 +59,11 @@ loop-less c = omega arith
 
 loop-again : tie.Need-loop-again Inv-loop μ-loop
 loop-again c =
-    let a = c .before .before .before .before .before .before .before .before .before .before .before .before .before .args in
-    let l = c .before .before .before .before .before .before .loop in
-    let u = c .before .before .before .score-under2 in
+    let scored-at = c .before .before .before in
+    let here = scored-at .before .before .before in
+    let a = begun (first here) .args in
+    let l = here .loop in
+    let u = scored-at .score-under2 in
     let kept = u .kept .1 .1 .1 .1 .0 in
     let f = scored (a .v) (a .level) (a .base .now) in (
       omega arith,
@@ -69,14 +83,14 @@ loop-again c =
     )
 
 same-length : tie.Need-same-length Inv-loop μ-loop
-same-length c = c .before .loop .inv .1 .0 ∙ c .before .before .before .before .score-under .kept .1 .1 .1 .1 .0
+same-length c = c .before .loop .inv .1 .0 ∙ first (c .before) .score-under .kept .1 .1 .1 .1 .0
 
 returns : tie.Need-returns Inv-loop μ-loop
 returns c =
-    let a = c .before .before .before .before .before .before .before .before .args in
+    let a = begun (first (c .before)) .args in
     let l = c .before .loop in (
       sym (l .inv .1 .1 .1 .1 ∙ leads-last (scored (a .v) (a .level) (a .base .now)) (l .least) (l .place) (l .k) (c .loop-test .left)),
-      record { rest = l .inv .1 .1 .1 .0 ∙ c .before .before .before .before .score-under .ensures .1 .rest },
+      record { rest = l .inv .1 .1 .1 .0 ∙ first (c .before) .score-under .ensures .1 .rest },
     )
 
 pub least-mask-spec : {M : Type 1} → statement M

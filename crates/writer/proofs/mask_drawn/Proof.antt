@@ -1,5 +1,4 @@
 -- `writer::mask_drawn` meets its contract.
--- Assumes nothing.
 use mathlib.Core.Path.{refl}
 use borrow.Author.Tests.{eq-eqb, ne-eqb}
 use Rattle.writer.specs.Answer.{maskDrawn}

@@ -1,12 +1,11 @@
 -- `writer::score_under` meets its contract: what is scored is the front that `finish` left.
--- Assumes nothing.
 use mathlib.Core.Path.{_≡_, sym, ap, ap₂, _∙_}
 use mathlib.Core.List.{List}
 use Prim.Native.Nat.{ℕ, _*_, _≤_}
 use native.Mathlib.Nat.{mul-le-mul}
 use native.Mathlib.Omega.{arith}
 use lib.ListN.{length, drop}
-use Rattle.tables.specs.Tables.{side}
+use Rattle.tables.specs.Tables.{side, mostSide}
 use Rattle.modules.specs.Kinds.{finished}
 use Rattle.penalty.specs.Penalty.{score}
 use Rattle.writer.proofs.Steps.{side-le, Stands, stands, finished-length}
@@ -14,22 +13,36 @@ use borrow.Author.Needs.{needs}
 use Rattle.writer.proofs.score_under.Statement.{statement}
 use Rattle.writer.proofs.score_under.Tie as tie
 
-sides : (c : tie.After-side) → (21 ≤ c .side .result) × (c .side .result ≤ 57)
-sides c = rw (c .side .ensures) (side-le _ _ (c .before .before .before .pre .0))
+-- once the side is known
+module _ (s : tie.After-side) where
+  abbrev begun : tie.Start
+  begun = s .before .before .before
+
+  abbrev area : ℕ
+  area = s .side .result * s .side .result
+
+  sides : (21 ≤ s .side .result) × (s .side .result ≤ mostSide)
+  sides = rw (s .side .ensures) (side-le _ _ (begun .pre .0))
 
 -- what `finish` made, and what it left in `out`
-abbrev made : tie.After-finish → List ℕ
-made c = finished (c .before .before .before .before .before .args .v) (c .before .before .before .before .before .args .level) (c .before .before .before .before .before .args .mask) (c .before .before .before .before .before .args .base .now)
+module _ (m : tie.After-finish) where
+  abbrev sized : tie.After-side
+  sized = m .before .before
 
-abbrev written : tie.After-finish → List ℕ
-written c = c .finish .last .1 .1 .1 .1 .0
+  abbrev made : List ℕ
+  made = let a = begun sized .args in finished (a .v) (a .level) (a .mask) (a .base .now)
 
-long : (c : tie.After-finish) → length (made c) ≡ c .before .before .side .result * c .before .before .side .result
-long c = finished-length _ _ _ _ ∙ rw (c .before .before .side .ensures)
+  abbrev written : List ℕ
+  written = m .finish .last .1 .1 .1 .1 .0
 
-front : (c : tie.After-finish) → Stands (c .before .before .side .result * c .before .before .side .result) (made c)
-    (drop (side (c .before .before .before .before .before .args .v) * side (c .before .before .before .before .before .args .v)) (c .before .before .before .before .before .args .out .now)) (written c)
-front c = stands _ (made c) _ (written c) (c .finish .ensures) (long c)
+  area-of : area sized ≡ side (begun sized .args .v) * side (begun sized .args .v)
+  area-of = ap₂ _*_ (sized .side .ensures) (sized .side .ensures)
+
+  long : length made ≡ area sized
+  long = finished-length _ _ _ _ ∙ sym area-of
+
+  front : Stands (area sized) made (drop (side (begun sized .args .v) * side (begun sized .args .v)) (begun sized .args .out .now)) written
+  front = stands _ made _ written (m .finish .ensures) long
 
 side-requires : tie.Need-side-requires
 side-requires c κs = search needs
@@ -44,22 +57,24 @@ slice-reshare-prefix-score : tie.Need-slice-reshare-prefix-score
 slice-reshare-prefix-score c = front (c .before .before) .long
 
 slice-aggregate-score : tie.Need-slice-aggregate-score
-slice-aggregate-score c = sym (ap length (front (c .before .before .before) .before) ∙ long (c .before .before .before))
+slice-aggregate-score c = let m = c .before .before .before in sym (ap length (front m .before) ∙ long m)
 
 score-requires : tie.Need-score-requires
 score-requires c κs =
-    let f = front (c .before .before .before) .before in
-    let s = sides (c .before .before .before .before .before) in
-    (omega arith, (s .1, (ap length f ∙ long (c .before .before .before), rw f (c .before .before .before .before .before .before .before .before .pre .1 .0 .colours _))))
+    let m = c .before .before .before in
+    let f = front m .before in
+    let s = sides (sized m) in
+    (omega arith, (s .1, (ap length f ∙ long m, rw f (begun (sized m) .pre .1 .0 .colours _))))
 
 same-length : tie.Need-same-length
 same-length c = search needs
 
 returns : tie.Need-returns
-returns c = (
-  c .score .ensures ∙ ap₂ score (c .before .before .before .before .before .before .side .ensures) (front (c .before .before .before .before) .before),
-  record { rest = ap (λ (n : ℕ). drop n (written (c .before .before .before .before))) (ap₂ _*_ (sym (c .before .before .before .before .before .before .side .ensures)) (sym (c .before .before .before .before .before .before .side .ensures))) ∙ front (c .before .before .before .before) .after },
-)
+returns c =
+    let m = c .before .before .before .before in (
+      c .score .ensures ∙ ap₂ score (sized m .side .ensures) (front m .before),
+      record { rest = ap (λ (n : ℕ). drop n (written m)) (sym (area-of m)) ∙ front m .after },
+    )
 
 pub score-under-spec : {M : Type 1} → statement M
 score-under-spec =

@@ -1,5 +1,4 @@
 -- `writer::smallest` meets its contract. The invariant: no version before v fits.
--- Assumes nothing.
 use mathlib.Core.Path.{_≡_, sym, _∙_}
 use mathlib.Core.Bool.{false}
 use Prim.Native.Nat.{ℕ, _-_, _≤_, _<_}

@@ -1,5 +1,4 @@
 -- `writer::version_taken` meets its contract.
--- Assumes nothing.
 use mathlib.Core.Path.{sym, ap, _∙_}
 use Prim.Native.Nat.{ℕ}
 use Rattle.writer.specs.Writer.{taken}

@@ -1,5 +1,4 @@
 -- `cursor::Cursor::put` meets its contract. The invariant: the bits are the entry's with the first k of the field pasted in.
--- Assumes nothing.
 use mathlib.Core.Path.{_≡_, refl, ap, _∙_}
 use Prim.Native.Nat.{_+_, _-_, _%_, _≤_}
 use native.Mathlib.Omega.{arith}
@@ -69,8 +68,9 @@ loop-less c = omega arith
 
 loop-again : tie.Need-loop-again Inv-loop μ-loop
 loop-again c =
-    let l = c .before .before .before .before .loop in
-    let a = c .before .before .before .before .before .before .args in
+    let t = c .before .before .before .before in
+    let l = t .loop in
+    let a = t .before .before .args in
     let m = c .before .before .least .result in (
       omega arith,
       (

@@ -1,12 +1,12 @@
--- `cursor::Cursor::take` meets its contract. The invariant: v is the field of the k bits passed.
--- Assumes nothing.
-use mathlib.Core.Path.{_≡_, refl, sym, ap, _∙_}
-use Prim.Native.Nat.{_+_, _-_, _*_, _≤_}
+-- `cursor::Cursor::take` meets its contract.
+-- The invariant: v is the field of the k bits passed.
+use mathlib.Core.Path.{_≡_, refl, ap, _∙_}
+use Prim.Native.Nat.{ℕ, _+_, _-_, _*_, _≤_}
 use native.Mathlib.Omega.{arith}
 use borrow.Author.Needs.{needs}
 use Rattle.cursor.specs.Cursor.{field}
 use Rattle.cursor.proofs.Fields.{field-none, field-16}
-use Rattle.cursor.proofs.Parts.{field-part, field-shifted}
+use Rattle.cursor.proofs.Parts.{field-grown, field-shifted}
 use Rattle.cursor.proofs.Cursor.take.Statement.{statement}
 use Rattle.cursor.proofs.Cursor.take.Tie as tie
 
@@ -49,22 +49,26 @@ sub-part-of c = omega arith
 part-of-requires : tie.Need-part-of-requires Inv-loop μ-loop
 part-of-requires c κs = omega (arith, c .before .before .least .ensures)
 
--- the number with the turn's bits behind it is the field with those bits
-grown : (c : tie.After-part-of Inv-loop μ-loop)
-    → let l = c .before .before .before .before .before .loop in
-    let a = c .before .before .before .before .before .before .before .args in
-    l .v * c .before .before .power .result + c .part-of .result ≡ field (a .bytes .now) (a .self .at) (l .k + c .before .before .before .least .result)
-grown c =
-    let l = c .before .before .before .before .before .loop in
-    let a = c .before .before .before .before .before .before .before .args in
-    rw (c .before .before .power .ensures, c .part-of .ensures, l .inv .1)
-    (sym (field-part (a .bytes .now) (a .self .at) (l .k) (c .before .before .before .least .result) (omega arith) (omega arith) (omega arith)))
+-- the turn, once its bits are known
+module _ (c : tie.After-part-of Inv-loop μ-loop) where
+  abbrev turn : tie.At-loop Inv-loop μ-loop
+  turn = c .before .before .before .before .before
+
+  abbrev start : tie.Start Inv-loop μ-loop
+  start = turn .before .before
+
+  abbrev taken : ℕ
+  taken = c .before .before .before .least .result
+
+  -- the number with the turn's bits behind it is the field with those bits
+  grown : turn .loop .v * c .before .before .power .result + c .part-of .result ≡ field (start .args .bytes .now) (start .args .self .at) (turn .loop .k + taken)
+  grown =
+      field-grown (start .args .bytes .now) (start .args .self .at) (turn .loop .k) taken _ _ _ (omega arith) (omega arith) (omega arith) (turn .loop .inv .1)
+      (c .before .before .power .ensures) (c .part-of .ensures)
 
 add-v : tie.Need-add-v Inv-loop μ-loop
 add-v c =
-    let l = c .before .before .before .before .before .loop in
-    let a = c .before .before .before .before .before .before .before .args in
-    record { fits = rw (grown c) (omega (arith, field-16 (a .bytes .now) (a .self .at) (l .k + c .before .before .before .least .result) (omega arith))) }
+    record { fits = rw (grown c) (omega (arith, field-16 (start c .args .bytes .now) (start c .args .self .at) (turn c .loop .k + taken c) (omega arith))) }
 
 add-k : tie.Need-add-k Inv-loop μ-loop
 add-k c = omega arith
