@@ -27,7 +27,7 @@ fn equal(w: [u8; 11], p: [u8; 11]) -> bool
 
 // Whether a window is one pattern or the other.
 fn finder_like(w: [u8; 11]) -> bool
-    ensures { result ≡ paper.finderLike w }
+    ensures { result ≡ paper.finder_like w }
 {
     let table = PATTERNS;
     let first = table[0];

@@ -8,8 +8,7 @@ use lib.ListN.{length}
 use borrow.Author.Tests.{le-leb, lt-leb}
 use Rattle.basics.proofs.Test.{same, same_1}
 use Rattle.tables.specs.Tables.{centre_rows, centres}
-use Rattle.tables.proofs.centre_count.Statement.{statement}
-use Rattle.tables.proofs.centre_count.Tie as tie
+use Rattle.tables.proofs.centre_count.Goals as goal
 
 counts : ℕ → ℕ
 counts v = cond (leb v 1) 0 (cond (leb v 6) 2 3)
@@ -21,23 +20,14 @@ tested = tt
 counted : (v : ℕ) → v ≤ 10 → counts v ≡ length (centres v)
 counted v h = same_1 11 counts (λ v. length (centres v)) tested v (omega arith)
 
-returns : tie.Need-returns
+pub returns-then-v-le1 : goal.returns-then-v-le1
 unfolding counts
-returns c =
-    let a = c.before in
-    rw (le-leb _ 1 c.if1.true) at (counted a.args.v a.requires.1)
+returns-then-v-le1 c = rw (le-leb _ 1 c.if-v-le1.true) at (counted c.args.v c.requires.1)
 
-returns-2 : tie.Need-returns-2
+pub returns-then-v-le6 : goal.returns-then-v-le6
 unfolding counts
-returns-2 c =
-    let a = c.before.before in
-    rw (lt-leb _ 1 c.before.if1.false, le-leb _ 6 c.if2.true) at (counted a.args.v a.requires.1)
+returns-then-v-le6 c = rw (lt-leb _ 1 c.if-v-le1.false, le-leb _ 6 c.if-v-le6.true) at (counted c.args.v c.requires.1)
 
-returns-3 : tie.Need-returns-3
+pub returns : goal.returns
 unfolding counts
-returns-3 c =
-    let a = c.before.before in
-    rw (lt-leb _ 1 c.before.if1.false, lt-leb _ 6 c.if2.false) at (counted a.args.v a.requires.1)
-
-pub centre-count-spec : {M : Type 1} → statement M
-centre-count-spec = tie.close (tie.spec returns returns-2 returns-3)
+returns c = rw (lt-leb _ 1 c.if-v-le1.false, lt-leb _ 6 c.if-v-le6.false) at (counted c.args.v c.requires.1)

@@ -8,8 +8,7 @@ use lib.ListN.{get_or}
 use Rattle.basics.proofs.Test.{all, grid}
 use Rattle.tables.specs.Tables.{centre_rows, centres}
 use borrow.Author.Rules.{rules}
-use Rattle.tables.proofs.centre.Statement.{statement}
-use Rattle.tables.proofs.centre.Tie as tie
+use Rattle.tables.proofs.centre.Goals as goal
 
 rows : List (List ℕ)
 rows =
@@ -20,30 +19,9 @@ tested : T (all 10 (λ u. all 3 (λ k. eqb (get_or (get_or rows u []) k 0) (get_
 unfolding rows centres centre_rows
 tested = tt
 
-sub_wide : tie.Need-overflow-sub-wide
-sub_wide c = search rules
-
-mul_wide : tie.Need-overflow-mul-wide
-mul_wide c = search rules
-
-index-1-wide : tie.Need-bounds-1-wide
-index-1-wide c = search rules
-
-index-2-wide : tie.Need-bounds-2-wide
-index-2-wide c = search rules
-
-wide-requires : tie.Need-wide-requires
-wide-requires c κs = search rules
-
-returns : tie.Need-returns
+pub returns : goal.returns
 unfolding rows
-returns c =
-    let a = c.before.before in
-    let v : ℕ = a.args.v in
-    let k : ℕ = a.args.k in
+returns c = let v : ℕ = c.args.v in
+    let k : ℕ = c.args.k in
     let up : suc (v - 1) ≡ v = omega arith in
     c.wide.ensures ∙ eqb→eq _ _ (grid 10 3 (λ u k. eqb (get_or (get_or rows u []) k 0) (get_or (centres (suc u)) k 0)) tested (v - 1) k (omega arith) (omega arith)) ∙ ap (λ (w : ℕ). get_or (centres w) k 0) up
-
-pub centre-spec : {M : Type 1} → statement M
-centre-spec =
-    tie.close (tie.spec sub_wide mul_wide index-1-wide index-2-wide wide-requires returns)

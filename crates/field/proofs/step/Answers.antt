@@ -1,0 +1,6 @@
+-- `field::step` meets its contract.
+use borrow.Author.Rules.{rules}
+use Rattle.field.proofs.step.Goals as goal
+
+pub returns : goal.returns
+returns c = rw (c.pick.ensures, c.dbl.ensures)
