@@ -6,7 +6,7 @@ ghost use Rattle.blocks.specs.Sizes.{Modest, sizes_of};
 
 // What the version table says of the blocks of a version and a level: all data codewords, the blocks, the data codewords of a
 // short block, and how many are short. The blocks after those hold one more.
-#[derive(Drop)]
+#[derive(Clone, Copy)]
 pub struct Sizes {
     pub held: usize,
     pub blocks: usize,
