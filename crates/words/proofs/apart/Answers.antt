@@ -1,13 +1,8 @@
 -- `words::apart` meets its contract: what is under the readable bits has no more bits than they.
 use lib.Bits.{bit_xor}
 use Rattle.words.proofs.Distance.{ones_under, ones_under_le}
-use Rattle.words.proofs.apart.Statement.{statement}
-use Rattle.words.proofs.apart.Tie as tie
+use Rattle.words.proofs.apart.Goals as goal
 
-returns : tie.Need-returns
-returns c =
-    let a = c.args in
+pub returns : goal.returns
+returns c = let a = c.args in
     (ones_under a.k (bit_xor a.copy a.word) a.readable c.requires.1, ones_under_le a.k (bit_xor a.copy a.word) a.readable c.requires.1)
-
-pub apart-spec : {M : Type 1} → statement M
-apart-spec = tie.close (tie.spec returns)
