@@ -1,0 +1,17 @@
+-- `stream::put_bytes` meets its contract. The invariant: all is put but the bits of the bytes that are left.
+use mathlib.Core.Path.{◌≡◌, sym, ap, ◌∙◌}
+use mathlib.Core.List.{◌++◌}
+use Prim.Native.Nat.{ℕ, ◌+◌, ◌-◌, ◌≤◌}
+use native.Mathlib.Omega.{arith}
+use lib.ListN.{length, drop}
+use borrow.Author.Rules.{rules}
+use Rattle.basics.specs.Bits.{bits, byte_bits}
+use Rattle.stream.proofs.Bodies.{bytes_more, bytes_none}
+use Rattle.stream.proofs.Put.{Going, going_start, going_room, going_field, going_done}
+use Rattle.stream.proofs.put_bytes.Given as goal
+
+abbrev pub invariant-loop-i : goal.invariant-loop-i
+invariant-loop-i l = (l.i ≤ length l.chars) × Going l.initial.out l.initial.c.at (byte_bits l.chars) l.out l.c.at (byte_bits (drop l.i l.chars))
+
+abbrev pub decreases-loop-i : goal.decreases-loop-i
+decreases-loop-i l = length l.chars - l.i
