@@ -1,12 +1,8 @@
 -- `stream::all_in_mode` meets its contract. The invariant: all are in the mode if those that are left are.
 use mathlib.Core.Bool.{true, false}
-use mathlib.Core.Path.{◌≡◌, refl, sym, ◌∙◌}
-use Prim.Native.Nat.{◌-◌}
+use mathlib.Core.Path.{◌≡◌, sym, ◌∙◌}
 use native.Mathlib.Omega.{arith}
-use lib.ListN.{get_or, length, drop}
-use borrow.Author.Tests.{not-true, not-false}
-use borrow.Author.Rules.{rules}
-use Rattle.basics.specs.Lists.{each}
+use lib.ListN.{get_or}
 use Rattle.stream.proofs.Pairs.{each_more, each_none}
 use Rattle.stream.specs.Stream.{in_mode}
 use Rattle.stream.proofs.all_in_mode.Goals as goal

@@ -1,13 +1,8 @@
 -- `stream::all_in_mode` meets its contract. The invariant: all are in the mode if those that are left are.
-use mathlib.Core.Bool.{true, false}
-use mathlib.Core.Path.{◌≡◌, refl, sym, ◌∙◌}
+use mathlib.Core.Path.{◌≡◌}
 use Prim.Native.Nat.{◌-◌}
-use native.Mathlib.Omega.{arith}
-use lib.ListN.{get_or, length, drop}
-use borrow.Author.Tests.{not-true, not-false}
-use borrow.Author.Rules.{rules}
+use lib.ListN.{length, drop}
 use Rattle.basics.specs.Lists.{each}
-use Rattle.stream.proofs.Pairs.{each_more, each_none}
 use Rattle.stream.specs.Stream.{in_mode}
 use Rattle.stream.proofs.all_in_mode.Given as goal
 

@@ -1,9 +1,8 @@
 -- `stream::clear` meets its contract. The invariant: so many zeros, and the rest as it was.
 use mathlib.Core.Path.{◌≡◌, refl, ◌∙◌}
-use mathlib.Core.List.{◌++◌, append-nil}
-use Prim.Native.Nat.{◌+◌, ◌-◌, ◌≤◌}
+use mathlib.Core.List.{append-nil}
 use native.Mathlib.Omega.{arith}
-use lib.ListN.{length, drop, replicate, length-set}
+use lib.ListN.{length, length-set}
 use lib.Seq.{drop-length}
 use borrow.Author.Fill.{fill_none, fill_more}
 use Rattle.stream.proofs.clear.Goals as goal

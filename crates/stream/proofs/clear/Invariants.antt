@@ -1,11 +1,8 @@
 -- `stream::clear` meets its contract. The invariant: so many zeros, and the rest as it was.
-use mathlib.Core.Path.{◌≡◌, refl, ◌∙◌}
-use mathlib.Core.List.{◌++◌, append-nil}
-use Prim.Native.Nat.{◌+◌, ◌-◌, ◌≤◌}
-use native.Mathlib.Omega.{arith}
-use lib.ListN.{length, drop, replicate, length-set}
-use lib.Seq.{drop-length}
-use borrow.Author.Fill.{fill_none, fill_more}
+use mathlib.Core.Path.{◌≡◌}
+use mathlib.Core.List.{◌++◌}
+use Prim.Native.Nat.{◌-◌, ◌≤◌}
+use lib.ListN.{length, drop, replicate}
 use Rattle.stream.proofs.clear.Given as goal
 
 abbrev pub invariant-loop-i : goal.invariant-loop-i

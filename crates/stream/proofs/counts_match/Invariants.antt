@@ -1,14 +1,8 @@
 -- `stream::counts_match` meets its contract. The invariant: the sum is at most the length, and with the counts that are left it is the whole sum.
-use mathlib.Core.Path.{◌≡◌, sym, ap}
-use Prim.Native.Nat.{ℕ, ◌+◌, ◌-◌, ◌≤◌, ◌<◌}
-use native.Mathlib.Nat.{zero-add}
-use native.Mathlib.Omega.{arith}
-use lib.Dec.{eqb}
+use mathlib.Core.Path.{◌≡◌}
+use Prim.Native.Nat.{◌+◌, ◌-◌, ◌≤◌}
 use lib.ListN.{length, drop}
-use borrow.Author.Tests.{ne_eqb}
-use borrow.Author.Rules.{rules}
 use Rattle.stream.specs.Stream.{counts}
-use Rattle.stream.proofs.Pairs.{sum_past, counts_more, counts_none}
 use Rattle.stream.proofs.counts_match.Given as goal
 
 abbrev pub invariant-loop-i : goal.invariant-loop-i

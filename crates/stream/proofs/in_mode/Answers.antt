@@ -1,6 +1,5 @@
 -- `stream::in_mode` meets its contract.
 use borrow.Author.Tests.{ne_eqb}
-use borrow.Author.Rules.{rules}
 use Rattle.stream.specs.Stream.{in_mode}
 use Rattle.stream.proofs.in_mode.Goals as goal
 

@@ -1,13 +1,8 @@
 -- `stream::lawful_characters` meets its contract. The invariant: the characters are lawful if those that are left are, in what is left of the list.
-use mathlib.Core.Bool.{true, false}
-use mathlib.Core.Path.{◌≡◌, refl, sym, ◌∙◌}
+use mathlib.Core.Path.{◌≡◌}
 use Prim.Native.Nat.{◌+◌, ◌-◌, ◌≤◌}
-use native.Mathlib.Omega.{arith}
 use lib.ListN.{length, drop}
-use borrow.Author.Tests.{not-true, not-false}
-use borrow.Author.Rules.{rules}
 use Rattle.stream.specs.Stream.{counts, lawful_characters}
-use Rattle.stream.proofs.Pairs.{counts_more, characters_good, characters_bad, characters_none}
 use Rattle.stream.proofs.lawful_characters.Given as goal
 
 abbrev pub invariant-loop-i : goal.invariant-loop-i

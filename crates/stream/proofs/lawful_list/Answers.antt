@@ -1,12 +1,9 @@
 -- `stream::lawful_list` meets its contract. The invariant: the list is lawful if what is left of it is.
 use mathlib.Core.Bool.{true, false}
-use mathlib.Core.Path.{◌≡◌, refl, sym, ap, ◌∙◌}
-use Prim.Native.Nat.{◌-◌}
+use mathlib.Core.Path.{◌≡◌, sym, ap, ◌∙◌}
 use native.Mathlib.Omega.{arith}
-use lib.ListN.{get_or, length, drop}
-use borrow.Author.Tests.{not-true, not-false}
-use borrow.Author.Rules.{rules}
-use Rattle.stream.specs.Stream.{known, lawful_list}
+use lib.ListN.{get_or}
+use Rattle.stream.specs.Stream.{known}
 use Rattle.stream.proofs.Pairs.{lawful_more, lawful_unknown, lawful_odd, lawful_none}
 use Rattle.stream.proofs.lawful_list.Goals as goal
 

@@ -1,14 +1,13 @@
 -- `stream::put_alphanumeric` meets its contract. The invariant: all is put but the bits of the characters that are left.
 use mathlib.Core.Path.{◌≡◌, refl, sym, ap, ◌∙◌}
 use mathlib.Core.List.{[], ◌++◌, append-nil}
-use Prim.Native.Nat.{ℕ, ◌+◌, ◌-◌, ◌≤◌}
+use Prim.Native.Nat.{ℕ, ◌+◌}
 use native.Mathlib.Omega.{arith}
-use lib.ListN.{length, drop}
-use borrow.Author.Rules.{rules}
+use lib.ListN.{drop}
 use Rattle.basics.specs.Bits.{bits}
 use Rattle.stream.specs.Stream.{alphanumeric_bits}
 use Rattle.stream.proofs.Bodies.{alphanumeric_more, alphanumeric_one, alphanumeric_none}
-use Rattle.stream.proofs.Put.{Going, going_start, going_room, going_field, going_done}
+use Rattle.stream.proofs.Put.{going_start, going_room, going_field, going_done}
 use Rattle.stream.proofs.put_alphanumeric.Goals as goal
 
 pub loop-i-init : goal.loop-i-init

@@ -1,13 +1,12 @@
 -- `stream::put_bytes` meets its contract. The invariant: all is put but the bits of the bytes that are left.
 use mathlib.Core.Path.{◌≡◌, sym, ap, ◌∙◌}
 use mathlib.Core.List.{◌++◌}
-use Prim.Native.Nat.{ℕ, ◌+◌, ◌-◌, ◌≤◌}
+use Prim.Native.Nat.{ℕ, ◌+◌}
 use native.Mathlib.Omega.{arith}
-use lib.ListN.{length, drop}
-use borrow.Author.Rules.{rules}
+use lib.ListN.{drop}
 use Rattle.basics.specs.Bits.{bits, byte_bits}
 use Rattle.stream.proofs.Bodies.{bytes_more, bytes_none}
-use Rattle.stream.proofs.Put.{Going, going_start, going_room, going_field, going_done}
+use Rattle.stream.proofs.Put.{going_start, going_room, going_field, going_done}
 use Rattle.stream.proofs.put_bytes.Goals as goal
 
 pub loop-i-init : goal.loop-i-init

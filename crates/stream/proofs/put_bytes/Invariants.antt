@@ -1,13 +1,8 @@
 -- `stream::put_bytes` meets its contract. The invariant: all is put but the bits of the bytes that are left.
-use mathlib.Core.Path.{◌≡◌, sym, ap, ◌∙◌}
-use mathlib.Core.List.{◌++◌}
-use Prim.Native.Nat.{ℕ, ◌+◌, ◌-◌, ◌≤◌}
-use native.Mathlib.Omega.{arith}
+use Prim.Native.Nat.{◌-◌, ◌≤◌}
 use lib.ListN.{length, drop}
-use borrow.Author.Rules.{rules}
-use Rattle.basics.specs.Bits.{bits, byte_bits}
-use Rattle.stream.proofs.Bodies.{bytes_more, bytes_none}
-use Rattle.stream.proofs.Put.{Going, going_start, going_room, going_field, going_done}
+use Rattle.basics.specs.Bits.{byte_bits}
+use Rattle.stream.proofs.Put.{Going}
 use Rattle.stream.proofs.put_bytes.Given as goal
 
 abbrev pub invariant-loop-i : goal.invariant-loop-i

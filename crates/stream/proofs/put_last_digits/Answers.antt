@@ -1,7 +1,6 @@
 -- `stream::put_last_digits` meets its contract.
 use mathlib.Core.Path.{◌≡◌, sym, ap, ◌∙◌}
 use native.Mathlib.Omega.{arith}
-use borrow.Author.Rules.{rules}
 use Rattle.basics.specs.Bits.{bits}
 use Rattle.stream.specs.Stream.{numeric_bits}
 use Rattle.stream.proofs.Bodies.{two_digits, one_digit, no_digit}

@@ -1,13 +1,8 @@
 -- `stream::put_numeric` meets its contract. The invariant: all is put but the bits of the digits that are left.
-use mathlib.Core.Path.{◌≡◌, sym, ap, ◌∙◌}
-use mathlib.Core.List.{◌++◌}
-use Prim.Native.Nat.{ℕ, ◌+◌, ◌-◌, ◌≤◌}
-use native.Mathlib.Omega.{arith}
-use lib.ListN.{length, drop, length-drop}
-use Rattle.basics.specs.Bits.{bits}
+use Prim.Native.Nat.{◌-◌, ◌≤◌}
+use lib.ListN.{length, drop}
 use Rattle.stream.specs.Stream.{numeric_bits}
-use Rattle.stream.proofs.Bodies.{part_to_end, numeric_more}
-use Rattle.stream.proofs.Put.{Going, going_start, going_room, going_field, going_rest, going_put}
+use Rattle.stream.proofs.Put.{Going}
 use Rattle.stream.proofs.put_numeric.Given as goal
 
 abbrev pub invariant-loop-i : goal.invariant-loop-i

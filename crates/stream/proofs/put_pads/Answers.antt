@@ -1,12 +1,11 @@
 -- `stream::put_pads` meets its contract. The invariant: the first k pads are pasted in behind the front.
 use mathlib.Core.Path.{◌≡◌, refl, ◌∙◌}
 use mathlib.Core.List.{append-nil}
-use Prim.Native.Nat.{◌+◌, ◌-◌, ◌≤◌}
+use Prim.Native.Nat.{◌+◌, ◌-◌}
 use native.Mathlib.Numerals.{add-one}
 use native.Mathlib.Omega.{arith}
 use lib.ListN.{length, length-set, drop_of_length-le}
-use lib.Seq.{paste, paste-zero, paste-suc, take_all}
-use borrow.Author.Rules.{rules}
+use lib.Seq.{paste-zero, paste-suc, take_all}
 use Rattle.stream.specs.Stream.{pads}
 use Rattle.stream.proofs.Padding.{pads_length, pads_at}
 use Rattle.stream.proofs.put_pads.Goals as goal

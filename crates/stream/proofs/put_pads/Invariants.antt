@@ -1,14 +1,9 @@
 -- `stream::put_pads` meets its contract. The invariant: the first k pads are pasted in behind the front.
-use mathlib.Core.Path.{◌≡◌, refl, ◌∙◌}
-use mathlib.Core.List.{append-nil}
-use Prim.Native.Nat.{◌+◌, ◌-◌, ◌≤◌}
-use native.Mathlib.Numerals.{add-one}
-use native.Mathlib.Omega.{arith}
-use lib.ListN.{length, length-set, drop_of_length-le}
-use lib.Seq.{paste, paste-zero, paste-suc, take_all}
-use borrow.Author.Rules.{rules}
+use mathlib.Core.Path.{◌≡◌}
+use Prim.Native.Nat.{◌-◌, ◌≤◌}
+use lib.ListN.{length}
+use lib.Seq.{paste}
 use Rattle.stream.specs.Stream.{pads}
-use Rattle.stream.proofs.Padding.{pads_length, pads_at}
 use Rattle.stream.proofs.put_pads.Given as goal
 
 abbrev pub invariant-loop-k : goal.invariant-loop-k

@@ -1,10 +1,9 @@
 -- `stream::put_segment` meets its contract: mode, count and body are put one after the other.
-use mathlib.Core.Path.{◌≡◌, refl, ◌∙◌}
+use mathlib.Core.Path.{◌≡◌, refl}
 use mathlib.Core.List.{List, ◌++◌, append_assoc}
-use Prim.Native.Nat.{ℕ, ◌+◌}
+use Prim.Native.Nat.{ℕ}
 use native.Mathlib.Omega.{arith}
 use lib.ListN.{length}
-use borrow.Author.Rules.{rules}
 use Rattle.basics.specs.Bits.{bits}
 use Rattle.tables.specs.Tables.{count_width}
 use Rattle.stream.specs.Stream.{body}
@@ -28,14 +27,14 @@ narrow-requires c = c.requires.0
 pub put-start-requires : goal.put-start-requires
 put-start-requires c =
     let all : List ℕ =
-        segment_bits c.args.v c.args.mode c.args.chars.now in
+    segment_bits c.args.v c.args.mode c.args.chars.now in
     let Left : (out : List ℕ) (at : ℕ) (rest : List ℕ) → Type 0 =
-        Going c.args.out.now c.args.cursor.at all in
+    Going c.args.out.now c.args.cursor.at all in
     let begun : Left c.args.out.now c.args.cursor.at all =
-        going_start _ _ _ (λ i l. omega (arith, c.slice_known-1.given i)) in
+    going_start _ _ _ (λ i l. omega (arith, c.slice_known-1.given i)) in
     let parted : all
-      ≡ bits 4 c.narrow.result ++ (bits (count_width c.args.v c.args.mode) (length c.args.chars.now) ++ body c.args.mode c.args.chars.now) =
-        split c.args.v c.args.mode _ c.args.chars.now c.narrow.ensures in
+    ≡ bits 4 c.narrow.result ++ (bits (count_width c.args.v c.args.mode) (length c.args.chars.now) ++ body c.args.mode c.args.chars.now) =
+    split c.args.v c.args.mode _ c.args.chars.now c.narrow.ensures in
     (omega arith, (c.requires.1.1.few, going_room _ _ _ 4 c.narrow.result _ begun parted c.requires.1.1.fit))
 
 pub narrow-requires-2 : goal.narrow-requires-2
@@ -44,19 +43,18 @@ narrow-requires-2 c = c.requires.1.0
 pub put-counted-requires : goal.put-counted-requires
 put-counted-requires c =
     let all : List ℕ =
-        segment_bits c.args.v c.args.mode c.args.chars.now in
+    segment_bits c.args.v c.args.mode c.args.chars.now in
     let Left : (out : List ℕ) (at : ℕ) (rest : List ℕ) → Type 0 =
-        Going c.args.out.now c.args.cursor.at all in
+    Going c.args.out.now c.args.cursor.at all in
     let begun : Left c.args.out.now c.args.cursor.at all =
-        going_start _ _ _ (λ i l. omega (arith, c.slice_known-1.given i)) in
+    going_start _ _ _ (λ i l. omega (arith, c.slice_known-1.given i)) in
     let parted : all
-      ≡ bits 4 c.narrow.result ++ (bits (count_width c.args.v c.args.mode) (length c.args.chars.now) ++ body c.args.mode c.args.chars.now) =
-        split c.args.v c.args.mode _ c.args.chars.now c.narrow.ensures in
+    ≡ bits 4 c.narrow.result ++ (bits (count_width c.args.v c.args.mode) (length c.args.chars.now) ++ body c.args.mode c.args.chars.now) =
+    split c.args.v c.args.mode _ c.args.chars.now c.narrow.ensures in
     let after_mode : Left c.put-start.new.out c.put-start.result.at
-      (bits c.count_width.result c.narrow-2.result ++ body c.args.mode c.args.chars.now) =
-        rw (← counted c.args.v c.args.mode _ _ c.args.chars.now c.count_width.ensures c.narrow-2.ensures)
-      (going_field _ _ _ 4 c.narrow.result _ begun parted c.requires.1.1.fit c.put-start.ensures.1 c.put-start.ensures.0) in
-    (
+    (bits c.count_width.result c.narrow-2.result ++ body c.args.mode c.args.chars.now) =
+    rw (← counted c.args.v c.args.mode _ _ c.args.chars.now c.count_width.ensures c.narrow-2.ensures)
+    (going_field _ _ _ 4 c.narrow.result _ begun parted c.requires.1.1.fit c.put-start.ensures.1 c.put-start.ensures.0) in (
       rw c.count_width.ensures (count_width_le c.args.v c.args.mode),
       (
         omega (arith, c.requires.1.1.few, after_mode.same),
@@ -67,39 +65,39 @@ put-counted-requires c =
 pub put_body-requires : goal.put_body-requires
 put_body-requires c =
     let all : List ℕ =
-        segment_bits c.args.v c.args.mode c.args.chars.now in
+    segment_bits c.args.v c.args.mode c.args.chars.now in
     let Left : (out : List ℕ) (at : ℕ) (rest : List ℕ) → Type 0 =
-        Going c.args.out.now c.args.cursor.at all in
+    Going c.args.out.now c.args.cursor.at all in
     let begun : Left c.args.out.now c.args.cursor.at all =
-        going_start _ _ _ (λ i l. omega (arith, c.slice_known-1.given i)) in
+    going_start _ _ _ (λ i l. omega (arith, c.slice_known-1.given i)) in
     let parted : all
-      ≡ bits 4 c.narrow.result ++ (bits (count_width c.args.v c.args.mode) (length c.args.chars.now) ++ body c.args.mode c.args.chars.now) =
-        split c.args.v c.args.mode _ c.args.chars.now c.narrow.ensures in
+    ≡ bits 4 c.narrow.result ++ (bits (count_width c.args.v c.args.mode) (length c.args.chars.now) ++ body c.args.mode c.args.chars.now) =
+    split c.args.v c.args.mode _ c.args.chars.now c.narrow.ensures in
     let after_mode : Left c.put-start.new.out c.put-start.result.at
-      (bits c.count_width.result c.narrow-2.result ++ body c.args.mode c.args.chars.now) =
-        rw (← counted c.args.v c.args.mode _ _ c.args.chars.now c.count_width.ensures c.narrow-2.ensures)
-      (going_field _ _ _ 4 c.narrow.result _ begun parted c.requires.1.1.fit c.put-start.ensures.1 c.put-start.ensures.0) in
+    (bits c.count_width.result c.narrow-2.result ++ body c.args.mode c.args.chars.now) =
+    rw (← counted c.args.v c.args.mode _ _ c.args.chars.now c.count_width.ensures c.narrow-2.ensures)
+    (going_field _ _ _ 4 c.narrow.result _ begun parted c.requires.1.1.fit c.put-start.ensures.1 c.put-start.ensures.0) in
     let after_count : Left c.put-counted.new.out c.put-counted.result.at (body c.args.mode c.args.chars.now) =
-        going_field _ _ _ c.count_width.result c.narrow-2.result _ after_mode refl c.requires.1.1.fit
-      c.put-counted.ensures.1 c.put-counted.ensures.0 in
+    going_field _ _ _ c.count_width.result c.narrow-2.result _ after_mode refl c.requires.1.1.fit
+    c.put-counted.ensures.1 c.put-counted.ensures.0 in
     going_rest _ _ _ after_count c.requires.1.1
 
 pub returns : goal.returns
 returns c =
     let all : List ℕ =
-        segment_bits c.args.v c.args.mode c.args.chars.now in
+    segment_bits c.args.v c.args.mode c.args.chars.now in
     let Left : (out : List ℕ) (at : ℕ) (rest : List ℕ) → Type 0 =
-        Going c.args.out.now c.args.cursor.at all in
+    Going c.args.out.now c.args.cursor.at all in
     let begun : Left c.args.out.now c.args.cursor.at all =
-        going_start _ _ _ (λ i l. omega (arith, c.slice_known-1.given i)) in
+    going_start _ _ _ (λ i l. omega (arith, c.slice_known-1.given i)) in
     let parted : all
-      ≡ bits 4 c.narrow.result ++ (bits (count_width c.args.v c.args.mode) (length c.args.chars.now) ++ body c.args.mode c.args.chars.now) =
-        split c.args.v c.args.mode _ c.args.chars.now c.narrow.ensures in
+    ≡ bits 4 c.narrow.result ++ (bits (count_width c.args.v c.args.mode) (length c.args.chars.now) ++ body c.args.mode c.args.chars.now) =
+    split c.args.v c.args.mode _ c.args.chars.now c.narrow.ensures in
     let after_mode : Left c.put-start.new.out c.put-start.result.at
-      (bits c.count_width.result c.narrow-2.result ++ body c.args.mode c.args.chars.now) =
-        rw (← counted c.args.v c.args.mode _ _ c.args.chars.now c.count_width.ensures c.narrow-2.ensures)
-      (going_field _ _ _ 4 c.narrow.result _ begun parted c.requires.1.1.fit c.put-start.ensures.1 c.put-start.ensures.0) in
+    (bits c.count_width.result c.narrow-2.result ++ body c.args.mode c.args.chars.now) =
+    rw (← counted c.args.v c.args.mode _ _ c.args.chars.now c.count_width.ensures c.narrow-2.ensures)
+    (going_field _ _ _ 4 c.narrow.result _ begun parted c.requires.1.1.fit c.put-start.ensures.1 c.put-start.ensures.0) in
     let after_count : Left c.put-counted.new.out c.put-counted.result.at (body c.args.mode c.args.chars.now) =
-        going_field _ _ _ c.count_width.result c.narrow-2.result _ after_mode refl c.requires.1.1.fit
-      c.put-counted.ensures.1 c.put-counted.ensures.0 in
+    going_field _ _ _ c.count_width.result c.narrow-2.result _ after_mode refl c.requires.1.1.fit
+    c.put-counted.ensures.1 c.put-counted.ensures.0 in
     going_put _ _ _ after_count c.put_body.ensures

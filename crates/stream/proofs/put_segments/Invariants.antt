@@ -1,16 +1,9 @@
 -- `stream::put_segments` meets its contract. The invariant: all is put but the segments of the pairs that are left.
 use mathlib.Core.Path.{◌≡◌}
-use mathlib.Core.List.{List, ◌++◌}
-use Prim.Native.Nat.{ℕ, ◌+◌, ◌-◌, ◌≤◌, ◌<◌}
-use native.Mathlib.Omega.{arith}
-use lib.ListN.{length, take, drop}
-use borrow.Author.Rules.{rules}
-use Rattle.basics.proofs.Parts.{length_part}
+use Prim.Native.Nat.{◌+◌, ◌-◌, ◌≤◌}
+use lib.ListN.{length, drop}
 use Rattle.stream.specs.Stream.{counts, segments}
-use Rattle.stream.specs.Put.{segment_bits}
-use Rattle.stream.proofs.Pairs.{counts_more, segments_piece, segments_none}
-use Rattle.stream.proofs.Put.{Going, going_start, piece_room, piece_put, going_done}
-use Rattle.stream.proofs.Widths.{segment_le}
+use Rattle.stream.proofs.Put.{Going}
 use Rattle.stream.proofs.put_segments.Given as goal
 
 abbrev pub invariant-loop-i : goal.invariant-loop-i

@@ -1,6 +1,5 @@
 -- `stream::segment_width` meets its contract.
 use native.Mathlib.Omega.{arith}
-use borrow.Author.Rules.{rules}
 use Rattle.stream.proofs.Widths.{count_width_le, body_width_le}
 use Rattle.stream.proofs.segment_width.Goals as goal
 

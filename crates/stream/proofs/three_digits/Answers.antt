@@ -2,7 +2,6 @@
 use Prim.Native.Nat.{◌+◌}
 use native.Mathlib.Omega.{arith}
 use lib.ListN.{get_or}
-use borrow.Author.Rules.{rules}
 use Rattle.stream.proofs.Characters.{code_le}
 use Rattle.stream.proofs.three_digits.Goals as goal
 
