@@ -1,4 +1,6 @@
 // The code of a block: the checks of data, written into a lent part, and the values of a word at the powers of 2.
+#![tactic(auto)]
+
 ghost use Rattle.std.specs.Prelude.{◌≡◌, ◌++◌, ◌-◌, ◌≤◌, length, take, drop, replicate};
 ghost use Rattle.basics.specs.Build.{build};
 ghost use Rattle.field.specs.Field.{pow_n};
