@@ -8,9 +8,7 @@ use lib.ListN.{get_or}
 use Rattle.basics.proofs.Test.{all, grid}
 use Rattle.modules.specs.Kinds.{row_flips}
 use Rattle.modules.proofs.Open.{every}
-use borrow.Author.Rules.{rules}
-use Rattle.modules.proofs.row_flips.Statement.{statement}
-use Rattle.modules.proofs.row_flips.Tie as tie
+use Rattle.modules.proofs.row_flips.Goals as goal
 
 rows : List (List ℕ)
 rows =
@@ -33,30 +31,12 @@ low_tested = tt
 low : (m i : ℕ) → m < 8 → i < 12 → get_or (get_or rows m []) i 0 ≤ 63
 low m i hm hi = leb→le _ _ (grid 8 12 (λ m i. leb (get_or (get_or rows m []) i 0) 63) low_tested m i hm hi)
 
-mul_wide : tie.Need-overflow-mul-wide
-mul_wide c = search rules
-
-index-1-wide : tie.Need-bounds-1-wide
-index-1-wide c = search rules
-
-index-2-wide : tie.Need-bounds-2-wide
-index-2-wide c = search rules
-
-wide-requires : tie.Need-wide-requires
-wide-requires c κs = search rules
-
-mul-result : tie.Need-overflow-mul-result
+pub overflow_mul-result : goal.overflow_mul-result
 unfolding rows
-mul-result c =
-    omega (arith, c.wide.ensures, low c.before.before.args.mask (c.before.before.args.i % 12) (omega arith) (omega arith))
+overflow_mul-result c = omega (arith, c.wide.ensures, low c.args.mask (c.args.i % 12) (omega arith) (omega arith))
 
-returns : tie.Need-returns
+pub returns : goal.returns
 unfolding rows
-returns c =
-    let a = c.before.before.args in
+returns c = let a = c.args in
     ap (λ (x : ℕ). x * sixths) c.wide.ensures
     ∙ eqb→eq _ _ (grid 8 60 (λ m i. eqb (get_or (get_or rows m []) (i % 12) 0 * sixths) (row_flips m i)) tested a.mask a.i (omega arith) (omega arith))
-
-pub row-flips-spec : {M : Type 1} → statement M
-row-flips-spec =
-    tie.close (tie.spec mul_wide index-1-wide index-2-wide wide-requires mul-result returns)
