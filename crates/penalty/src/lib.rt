@@ -1,5 +1,7 @@
 // The penalty of a finished symbol: runs and windows of each row and column, squares, the share of dark modules. Every place is looked at in one way, whatever
 // stands there, so that the compiler counts sixteen places at a time and a score takes as long for one symbol as for another of its side.
+#![tactic(auto)]
+
 ghost use Rattle.std.specs.Prelude.{◌≡◌, ◌++◌, ◌+◌, ◌-◌, ◌*◌, ◌<◌, ◌≤◌, length, drop};
 ghost use Rattle.basics.specs.Lists.{same, AtMost};
 ghost use Rattle.penalty.specs.Penalty as paper;
