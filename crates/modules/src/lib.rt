@@ -1,4 +1,6 @@
 // What each module of a version is, the data modules' filling, and the symbol that a mask makes of it.
+#![tactic(auto)]
+
 ghost use Rattle.std.specs.Prelude.{◌≡◌, cond, ◌++◌, ◌+◌, ◌-◌, ◌*◌, ◌%◌, ◌≤◌, ◌<◌, eqb, length, get_or, drop, replicate};
 ghost use Rattle.basics.specs.Bits.{bit_of, byte_bits};
 ghost use Rattle.basics.specs.Build.{build};
