@@ -1,5 +1,9 @@
 // Tries the corrector on blocks of every size of the version table, with damage at the bound and past it.
+#![tactic(auto)]
+
 ghost use Rattle.std.specs.Prelude.{◌≡◌, ◌+◌, ◌<◌, ◌≤◌, length};
+
+use std::io;
 
 // The data codewords and the checks of each kind of block.
 const DATA: [u8; 47] = [
@@ -88,40 +92,53 @@ fn between(word: [u8; 255], other: [u8; 255], a: usize, b: usize) -> [u8; 255]
 }
 
 // What the corrector answers, and whether the word is the one that was sent.
-fn answer(word: &mut [u8], flags: &[u8], sent: &[u8], n: usize, room: usize)
+fn answer(
+    rt: &impl Print,
+    word: &mut [u8],
+    flags: &[u8],
+    sent: &[u8],
+    n: usize,
+    room: usize,
+) -> io::Result<()>
     requires { (length flags.now ≡ length word.old) × (length word.old ≤ 255) × (n ≤ 30) × (room ≤ n) }
 {
     let found = corrector::correct(word, flags, n, room);
     match found {
-        corrector::Correction::NoneStands => {
-            io::write_all(1, b"none\n");
-        }
+        corrector::Correction::NoneStands => println!(rt; "none"),
         corrector::Correction::Stood(k) => {
-            io::print_decimal(1, k.differing as u64);
-            io::write_all(1, b" wrong ");
-            io::print_decimal(1, k.unreadable as u64);
-            if check::same(word, sent) {
-                io::write_all(1, b" unreadable, as sent\n");
+            let differing = k.differing;
+            let unreadable = k.unreadable;
+            print!(rt; "{differing} wrong {unreadable}")?;
+            if *word == *sent {
+                println!(rt; " unreadable, as sent")
             } else {
-                io::write_all(1, b" unreadable, another\n");
+                println!(rt; " unreadable, another")
             }
         }
     }
 }
 
 // A codeword of d data codewords and n checks, the first of them wrong and those after them unreadable.
-fn attempt(d: usize, n: usize, room: usize, wrong: usize, unread: usize, seed: u8)
+fn attempt(
+    rt: &impl Print,
+    d: usize,
+    n: usize,
+    room: usize,
+    wrong: usize,
+    unread: usize,
+    seed: u8,
+) -> io::Result<()>
     requires { (d ≤ 200) × (n ≤ 30) × (room ≤ n) × (wrong + unread ≤ 255) }
 {
     let len = d + n;
     let sent = codeword(noise(seed), d, n);
     let mut word = spoiled(sent, wrong + unread);
     let flags = marked(wrong, wrong + unread);
-    answer(&mut word[..len], &flags[..len], &sent[..len], n, room);
+    answer(rt, &mut word[..len], &flags[..len], &sent[..len], n, room)
 }
 
 // Two codewords of 19 data codewords and 7 checks that differ at 8 places, and the first with 5 of them taken from the second: the second is nearer.
-fn nearer() {
+fn nearer(rt: &impl Print) -> io::Result<()> {
     let held = noise(5);
     let mut other = held;
     other[18] = held[18] ^ 1;
@@ -129,17 +146,17 @@ fn nearer() {
     let second = codeword(other, 19, 7);
     let mut word = between(first, second, 18, 23);
     let flags: [u8; 255] = [0; 255];
-    answer(&mut word[..26], &flags[..26], &second[..26], 7, 7);
+    answer(rt, &mut word[..26], &flags[..26], &second[..26], 7, 7)
 }
 
 // A kind of block with all that its bound takes: unreadable codewords alone, wrong ones alone, and both.
-fn kind(d: usize, n: usize, seed: u8)
+fn kind(rt: &impl Print, d: usize, n: usize, seed: u8) -> io::Result<()>
     requires { (d ≤ 200) × (n ≤ 30) }
 {
-    attempt(d, n, n, 0, n, seed);
-    attempt(d, n, n, n / 2, 0, seed);
+    attempt(rt, d, n, n, 0, n, seed)?;
+    attempt(rt, d, n, n, n / 2, 0, seed)?;
     let third = n / 3;
-    attempt(d, n, n, third, n - third * 2, seed);
+    attempt(rt, d, n, n, third, n - third * 2, seed)
 }
 
 // A byte as a count.
@@ -148,7 +165,7 @@ fn wide(x: u8) -> usize {
 }
 
 // Each kind of block.
-fn every() {
+fn every(rt: &impl Print) -> io::Result<()> {
     let data = DATA;
     let checks = CHECKS;
     let mut k: usize = 0;
@@ -157,22 +174,23 @@ fn every() {
         let n = wide(checks[k]);
         if d <= 200 {
             if n <= 30 {
-                kind(d, n, data[k]);
+                kind(rt, d, n, data[k])?;
             }
         }
         k += 1;
     }
+    Ok(())
 }
 
-fn main() {
-    attempt(19, 7, 7, 0, 0, 1);
-    attempt(19, 7, 7, 0, 7, 1);
-    attempt(19, 7, 7, 0, 8, 1);
-    attempt(19, 7, 7, 3, 1, 2);
-    attempt(19, 7, 7, 3, 2, 2);
-    attempt(19, 7, 6, 3, 1, 2);
-    attempt(19, 7, 6, 2, 2, 2);
-    attempt(16, 10, 10, 6, 0, 3);
-    nearer();
-    every();
+fn main(rt: HostRuntime) -> io::Result<()> {
+    attempt(&rt, 19, 7, 7, 0, 0, 1)?;
+    attempt(&rt, 19, 7, 7, 0, 7, 1)?;
+    attempt(&rt, 19, 7, 7, 0, 8, 1)?;
+    attempt(&rt, 19, 7, 7, 3, 1, 2)?;
+    attempt(&rt, 19, 7, 7, 3, 2, 2)?;
+    attempt(&rt, 19, 7, 6, 3, 1, 2)?;
+    attempt(&rt, 19, 7, 6, 2, 2, 2)?;
+    attempt(&rt, 16, 10, 10, 6, 0, 3)?;
+    nearer(&rt)?;
+    every(&rt)
 }

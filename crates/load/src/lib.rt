@@ -1,11 +1,18 @@
 // A symbol file, loaded from the system, and its text: what a program over such files calls.
-ghost use Rattle.std.specs.Prelude.{◌≡◌, ◌-◌, ◌<◌, ◌≤◌, length};
+#![tactic(auto)]
+
+ghost use Rattle.std.specs.Prelude.{◌≡◌, ◌-◌, ◌^◌, ◌<◌, ◌≤◌, length, IfOk};
 ghost use Rattle.io.specs.Counts.{IsPrefixLen};
-ghost use Rattle.libc.specs.Io.{Moved};
 ghost use Rattle.text.specs.Text.{most_text};
 ghost use Rattle.symbolfile.specs.SymbolFile.{most_file};
 ghost use Rattle.load.specs.Loaded.{Within, LoadedPrinted};
-ghost use Rattle.load.specs.Pieces.{opens, PieceEnd, after_read, Follows};
+ghost use Rattle.load.specs.Pieces.{opens, descriptor_of, count_of, Moved, PieceEnd, after_read, Follows};
+
+use std::fs::File;
+use std::io;
+use std::io::Read;
+use std::os::fd::AsRawFd;
+use std::rt::Files;
 
 // So many bytes of a file, or it cannot be opened or read.
 #[derive(Drop)]
@@ -25,11 +32,32 @@ pub enum Next {
 // The most bytes that a read asks for.
 const PIECE: usize = 4096;
 
+// The descriptor that was opened, or -1.
+fn descriptor(opened: &io::Result<File>) -> i32
+    ensures { result ≡ descriptor_of opened.now }
+{
+    match opened {
+        Ok(file) => file.as_raw_fd(),
+        Err(_) => -1,
+    }
+}
+
 // Whether a descriptor was opened: all but the negative ones.
 fn is_open(fd: i32) -> bool
     ensures { result ≡ opens fd }
 {
     fd >= 0
+}
+
+// What a read answered, as a number: how many bytes it moved, or -1.
+fn count(got: io::Result<usize>) -> isize
+    requires { IfOk got (λ k. k < 2 ^ 63) }
+    ensures { result ≡ count_of got }
+{
+    match got {
+        Ok(k) => k as isize,
+        Err(_) => -1,
+    }
 }
 
 // Where the piece behind the first n bytes of a buffer ends.
@@ -60,24 +88,24 @@ fn after(got: isize, n: usize, room: usize) -> Next
 }
 
 // Reads a piece behind the first n bytes, which stay as they are; what follows.
-fn piece(fd: i32, buf: &mut [u8], n: usize) -> Next
+fn piece<R: Read>(file: &mut R, buf: &mut [u8], n: usize) -> Next
     requires { n < length buf.old }
     ensures { Follows n buf.old result buf.new }
 {
     let room = buf.len();
     let e = piece_end(n, room);
-    let got = libc::read(fd, &mut buf[n..e]);
-    after(got, n, room)
+    let got = file.read(&mut buf[n..e]);
+    after(count(got), n, room)
 }
 
 // A file's bytes, from its front, as many as the buffer holds.
-fn load(fd: i32, buf: &mut [u8]) -> Loaded
+fn load<R: Read>(file: &mut R, buf: &mut [u8]) -> Loaded
     requires { most_file < length buf.old }
     ensures { Within result buf.new }
 {
     let mut n: usize = 0;
     loop {
-        match piece(fd, buf, n) {
+        match piece(file, buf, n) {
             Next::Failed => return Loaded::Unreadable,
             Next::Ended(held) => return Loaded::Bytes(held),
             Next::Behind(held) => n = held,
@@ -85,18 +113,22 @@ fn load(fd: i32, buf: &mut [u8]) -> Loaded
     }
 }
 
-// The file of this name. The buffer is longer than any lawful file, so that a longer one is seen to be longer.
-pub fn load_file(name: &[u8], buf: &mut [u8]) -> Loaded
+// The file of this name. The buffer is longer than any lawful file, so that a longer one is seen to be longer. A name that is no text is none of a file.
+pub fn load_file(files: &impl Files<File = File>, name: &[u8], buf: &mut [u8]) -> Loaded
     requires { most_file < length buf.old }
     ensures { Within result buf.new }
 {
-    let fd = os::open_read(name);
-    if !is_open(fd) {
+    let Ok(text) = str::from_utf8(name) else {
+        return Loaded::Unreadable;
+    };
+    let opened = File::open(files, text);
+    if !is_open(descriptor(&opened)) {
         return Loaded::Unreadable;
     }
-    let loaded = load(fd, buf);
-    libc::close(fd);
-    loaded
+    match opened {
+        Err(_) => Loaded::Unreadable,
+        Ok(mut file) => load(&mut file, buf),
+    }
 }
 
 // The text of what was loaded, at the front of the buffer; its length comes back.

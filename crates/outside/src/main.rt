@@ -1,16 +1,20 @@
 // Draws the symbols that other programs drew, one of each version and level, with the same mask, and reads each back; then reads a symbol after damage at its
 // bounds and past them. The file `symbols` has, for each: version, level, mask, mode, the payload's and the matrix's length (high byte first), the payload, and
 // the modules, eight to a byte from its highest bit on. Twenty are libqrencode 4.1.1's, drawn alike by python-qrcode 7.4.2.
-ghost use Rattle.std.specs.Prelude.{◌+◌, ◌<◌, ◌≤◌, length};
+#![tactic(auto)]
 
-use libc::STDOUT_FILENO;
+ghost use Rattle.std.specs.Prelude.{◌≡◌, ◌+◌, ◌<◌, ◌≤◌, length, IfOk};
+
 use reader::Answered;
+use std::fs::File;
+use std::io;
+use std::io::Read;
 use writer::Drawing;
 
 const SYMBOLS: usize = 40;
 
-fn say(text: &[u8]) {
-    io::write_all(STDOUT_FILENO, text);
+fn say(rt: &impl Print, text: &str) -> io::Result<()> {
+    rt.print(text)
 }
 
 fn wide(x: u8) -> usize
@@ -21,28 +25,20 @@ fn wide(x: u8) -> usize
 
 // Whether the first n bytes are these.
 fn front_same(a: &[u8], n: usize, b: &[u8]) -> bool {
-    if n <= a.len() {
-        check::same(&a[..n], b)
-    } else {
-        false
-    }
+    if n <= a.len() { &a[..n] == b } else { false }
 }
 
 // Whether a matrix reads to a payload.
-fn read_back(modules: &[u8], payload: &[u8]) {
+fn read_back(rt: &impl Print, modules: &[u8], payload: &[u8]) -> io::Result<()> {
     let mut bytes = [0u8; 652];
     let mut list = [0u16; 308];
     match reader::read(modules, &mut bytes, &mut list) {
-        Answered::Refused(k) => {
-            say(b"refused ");
-            io::print_decimal(STDOUT_FILENO, k as u64);
-            say(b"\n");
-        }
+        Answered::Refused(k) => println!(rt; "refused {k}"),
         Answered::Read(r) => {
             if front_same(&bytes, r.payload, payload) {
-                say(b"read back\n");
+                say(rt, "read back\n")
             } else {
-                say(b"read otherwise\n");
+                say(rt, "read otherwise\n")
             }
         }
     }
@@ -50,21 +46,22 @@ fn read_back(modules: &[u8], payload: &[u8]) {
 
 // Whether a request is drawn as these modules.
 fn draw_alike(
+    rt: &impl Print,
     payload: &[u8],
     list: &[u16],
     level: usize,
     version: usize,
     mask: usize,
     modules: &[u8],
-) {
+) -> io::Result<()> {
     let mut out = [2u8; 3249];
     match writer::write(payload, list, level, version, mask, &mut out) {
-        Drawing::Refused(_) => say(b"refused, "),
+        Drawing::Refused(_) => say(rt, "refused, "),
         Drawing::Drawn(_) => {
             if front_same(&out, modules.len(), modules) {
-                say(b"drawn alike, ");
+                say(rt, "drawn alike, ")
             } else {
-                say(b"drawn otherwise, ");
+                say(rt, "drawn otherwise, ")
             }
         }
     }
@@ -105,17 +102,18 @@ fn unpack(bits: &[u8], modules: &mut [u8]) {
     }
 }
 
-fn say_level(level: usize) {
+fn say_level(rt: &impl Print, level: usize) -> io::Result<()> {
     match level {
-        0 => say(b"-L: "),
-        1 => say(b"-M: "),
-        2 => say(b"-Q: "),
-        _ => say(b"-H: "),
+        0 => say(rt, "-L: "),
+        1 => say(rt, "-M: "),
+        2 => say(rt, "-Q: "),
+        _ => say(rt, "-H: "),
     }
 }
 
 // Whether a symbol of so many modules is drawn alike and read back.
 fn try_symbol(
+    rt: &impl Print,
     version: usize,
     level: usize,
     mask: usize,
@@ -123,51 +121,61 @@ fn try_symbol(
     payload: &[u8],
     bits: &[u8],
     size: usize,
-)
+) -> io::Result<()>
     requires { size ≤ 3249 }
 {
     let mut modules = [0u8; 3249];
     unpack(bits, &mut modules);
     let list = [mode, (payload.len() % 65536) as u16];
-    io::print_decimal(STDOUT_FILENO, version as u64);
-    say_level(level);
-    draw_alike(payload, &list, level, version, mask, &modules[..size]);
-    read_back(&modules[..size], payload);
+    print!(rt; "{version}")?;
+    say_level(rt, level)?;
+    draw_alike(rt, payload, &list, level, version, mask, &modules[..size])?;
+    read_back(rt, &modules[..size], payload)
 }
 
 // The symbol at a place of the file; the place of the next.
-fn try_one(file: &[u8], at: usize) -> usize
+fn try_one(rt: &impl Print, file: &[u8], at: usize) -> io::Result<usize>
     requires { (at ≤ length file.now) × (length file.now ≤ 65536) }
-    ensures { result ≤ length file.now }
+    ensures { IfOk result (λ next. next ≤ length file.now) }
 {
     let size = number_at(file, at + 6);
     let p = at + 8;
     let q = p + number_at(file, at + 4);
     let e = q + (size + 7) / 8;
     if file.len() < e {
-        return file.len();
+        return Ok(file.len());
     }
     if size > 3249 {
-        return file.len();
+        return Ok(file.len());
     }
     let version = byte_at(file, at);
     let level = byte_at(file, at + 1);
     let mask = byte_at(file, at + 2);
     let mode = (byte_at(file, at + 3) % 256) as u16;
-    try_symbol(version, level, mask, mode, &file[p..q], &file[q..e], size);
-    e
+    try_symbol(
+        rt,
+        version,
+        level,
+        mask,
+        mode,
+        &file[p..q],
+        &file[q..e],
+        size,
+    )?;
+    Ok(e)
 }
 
 // Each symbol of the file.
-fn try_all(file: &[u8])
+fn try_all(rt: &impl Print, file: &[u8]) -> io::Result<()>
     requires { length file.now ≤ 65536 }
 {
     let mut at: usize = 0;
     let mut turn: usize = 0;
     while turn < SYMBOLS {
-        at = try_one(file, at);
+        at = try_one(rt, file, at)?;
         turn += 1;
     }
+    Ok(())
 }
 
 // Turns a module over, or makes it unreadable.
@@ -191,15 +199,22 @@ fn touch(m: &mut [u8], places: &[usize], turned: usize) {
 }
 
 // Draws a symbol of this version and size at level L, touches it and reads it.
-fn attempt(text: &[u8], version: usize, size: usize, places: &[usize], turned: usize)
+fn attempt(
+    rt: &impl Print,
+    text: &str,
+    version: usize,
+    size: usize,
+    places: &[usize],
+    turned: usize,
+) -> io::Result<()>
     requires { size ≤ 3249 }
 {
     let mut m = [0u8; 3249];
     let list = [2u16, 13];
     writer::write(b"LOOP 7 SP 124", &list, 0, version, 2, &mut m);
     touch(&mut m, places, turned);
-    say(text);
-    read_back(&m[..size], b"LOOP 7 SP 124");
+    say(rt, text)?;
+    read_back(rt, &m[..size], b"LOOP 7 SP 124")
 }
 
 // At version 1: the first modules of the first nine codewords.
@@ -217,60 +232,87 @@ const OTHER_MASK: [usize; 7] = [188, 187, 186, 184, 183, 302, 344];
 const OTHER_VERSION: [usize; 8] = [79, 81, 126, 171, 214, 215, 216, 259];
 
 // A block at its bound and past it.
-fn block_bounds() {
+fn block_bounds(rt: &impl Print) -> io::Result<()> {
     let at = CODEWORDS;
-    attempt(b"7 unreadable: ", 1, 441, &at[..7], 0);
-    attempt(b"8 unreadable: ", 1, 441, &at[..8], 0);
-    attempt(b"3 wrong, 1 unreadable: ", 1, 441, &at[..4], 3);
-    attempt(b"3 wrong, 2 unreadable: ", 1, 441, &at[..5], 3);
-    attempt(b"4 wrong: ", 1, 441, &at[..4], 4);
+    attempt(rt, "7 unreadable: ", 1, 441, &at[..7], 0)?;
+    attempt(rt, "8 unreadable: ", 1, 441, &at[..8], 0)?;
+    attempt(rt, "3 wrong, 1 unreadable: ", 1, 441, &at[..4], 3)?;
+    attempt(rt, "3 wrong, 2 unreadable: ", 1, 441, &at[..5], 3)?;
+    attempt(rt, "4 wrong: ", 1, 441, &at[..4], 4)
 }
 
 // Format copies at their bounds and past them.
-fn format_bounds() {
+fn format_bounds(rt: &impl Print) -> io::Result<()> {
     let at = FORMATS;
     let other = OTHER_MASK;
-    attempt(b"3 flips in a format copy: ", 1, 441, &at[..3], 3);
+    attempt(rt, "3 flips in a format copy: ", 1, 441, &at[..3], 3)?;
     attempt(
-        b"2 flips, 2 unreadable in a format copy: ",
+        rt,
+        "2 flips, 2 unreadable in a format copy: ",
         1,
         441,
         &at[..4],
         2,
-    );
+    )?;
     attempt(
-        b"7 unreadable in one, 6 in the other: ",
+        rt,
+        "7 unreadable in one, 6 in the other: ",
         1,
         441,
         &at[..13],
         0,
-    );
-    attempt(b"7 unreadable in both: ", 1, 441, &at[..14], 0);
-    attempt(b"a format copy of another mask: ", 1, 441, &other[..7], 7);
+    )?;
+    attempt(rt, "7 unreadable in both: ", 1, 441, &at[..14], 0)?;
+    attempt(
+        rt,
+        "a format copy of another mask: ",
+        1,
+        441,
+        &other[..7],
+        7,
+    )
 }
 
 // Version copies at their bounds and past them.
-fn version_bounds() {
+fn version_bounds(rt: &impl Print) -> io::Result<()> {
     let at = OTHER_VERSION;
-    attempt(b"3 flips in a version copy: ", 7, 2025, &at[..3], 3);
-    attempt(b"4 flips in a version copy: ", 7, 2025, &at[..4], 4);
-    attempt(b"3 flips from another version: ", 7, 2025, &at[..5], 5);
-    attempt(b"a version copy of another version: ", 7, 2025, &at[..8], 8);
+    attempt(rt, "3 flips in a version copy: ", 7, 2025, &at[..3], 3)?;
+    attempt(rt, "4 flips in a version copy: ", 7, 2025, &at[..4], 4)?;
+    attempt(rt, "3 flips from another version: ", 7, 2025, &at[..5], 5)?;
+    attempt(
+        rt,
+        "a version copy of another version: ",
+        7,
+        2025,
+        &at[..8],
+        8,
+    )
 }
 
-fn main() {
-    let fd = os::open_read(b"symbols");
-    if fd < 0 {
-        os::fail(b"symbols");
-        return;
+// Reads until the buffer is full or the file ends; how many bytes stand at the buffer's front then.
+fn read_full(file: &mut impl Read, buf: &mut [u8]) -> io::Result<usize>
+    ensures long { length buf.new ≡ length buf.old }
+    ensures within { IfOk result (λ n. n ≤ length buf.old) }
+{
+    let mut done: usize = 0;
+    while done < buf.len() {
+        let more = file.read(&mut buf[done..])?;
+        if more == 0 {
+            return Ok(done);
+        }
+        done += more;
     }
-    let mut file = io::large_buffer();
-    let n = io::read_full(fd, &mut file);
-    libc::close(fd);
+    Ok(done)
+}
+
+fn main(rt: HostRuntime) -> io::Result<()> {
+    let mut opened = File::open(&rt, "symbols")?;
+    let mut file = [0u8; 65536];
+    let n = read_full(&mut opened, &mut file)?;
     if n <= 65536 {
-        try_all(&file[..n]);
+        try_all(&rt, &file[..n])?;
     }
-    block_bounds();
-    format_bounds();
-    version_bounds();
+    block_bounds(&rt)?;
+    format_bounds(&rt)?;
+    version_bounds(&rt)
 }
