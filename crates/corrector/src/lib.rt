@@ -1,4 +1,6 @@
 // The corrector: the one codeword that a block stands for, or none.
+#![tactic(auto)]
+
 ghost use Rattle.std.specs.Prelude.{◌≡◌, cond, not, ◌&&◌, ℕ, suc, ◌+◌, ◌-◌, ◌<◌, ◌≤◌, eqb, length, get_or};
 ghost use Rattle.basics.specs.Sums.{one};
 ghost use Rattle.field.specs.Field.{inv_n};
