@@ -1,4 +1,6 @@
 // A message as bits and data codewords: what a message must meet, refusals 2 to 5, and the stream that the writer sends.
+#![tactic(auto)]
+
 ghost use Rattle.std.specs.Prelude.{◌≡◌, true, [], ◌∷◌, ◌++◌, ◌+◌, ◌-◌, ◌*◌, ◌/◌, ◌%◌, ◌≤◌, ◌<◌, min, eqb, length, get_or, take, replicate};
 ghost use Rattle.basics.specs.Bits.{byte_bits};
 ghost use Rattle.basics.specs.Lists.{each};

@@ -1,5 +1,6 @@
 -- `penalty::runs_down` meets its contract. The invariant: the count is that of the places passed.
 use mathlib.Core.Path.{◌≡◌, refl, sym, ap, ap₂, ◌∙◌}
+use mathlib.Core.List.{List}
 use Prim.Native.Nat.{ℕ, suc, ◌+◌, ◌*◌, ◌-◌, ◌≤◌}
 use native.Mathlib.Nat.{mul-le-mul, suc-mul}
 use native.Mathlib.Omega.{arith}
@@ -13,8 +14,9 @@ use Rattle.penalty.proofs.runs_down.Goals as goal
 inside : (s k : ℕ) → k ≤ s → s ≤ 64 → ((s + 1 - k) * s + k * s ≡ s * s + s) × (s * s ≤ 4096)
 inside s k h l = (cut (s + 1 - k) k (suc s) s (omega arith) ∙ suc-mul s s, mul-le-mul l l)
 
-small : (c : goal.After-runs_among) → c.runs_among.result ≤ 64
-small c = rw c.runs_among.ensures (runs_from_le _ _ _ _ _)
+-- a count of few places is small
+small : (m : List ℕ) (start stride k n x : ℕ) → n ≤ 64 → x ≡ alike_from m start stride k n → x ≤ 64
+small m start stride k n x h e = omega (arith, runs_from_le m start stride k n)
 
 pub loop-left-init : goal.loop-left-init
 unfolding alike_from tally sum
@@ -26,7 +28,7 @@ runs_among-requires c = omega (arith, inside c.args.s c.args.k (omega arith) (om
 pub loop-left-preserved : goal.loop-left-preserved
 loop-left-preserved c = let a = c.args in
     let l = c.loop-left in
-    (omega arith, (omega (arith, small c), ap₂ ◌+◌ l.invariant.1.1 c.runs_among.ensures ∙ sym (runs_split a.m.now a.s a.k l.at 64)))
+    (omega arith, (omega (arith, small _ _ _ _ _ _ (omega arith) c.runs_among.ensures), ap₂ ◌+◌ l.invariant.1.1 c.runs_among.ensures ∙ sym (runs_split a.m.now a.s a.k l.at 64)))
 
 pub runs_among-requires-2 : goal.runs_among-requires-2
 runs_among-requires-2 c = omega (arith, inside c.args.s c.args.k (omega arith) (omega arith))
