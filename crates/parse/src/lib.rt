@@ -1,4 +1,6 @@
 // Data codewords back to a message, or the first fault.
+#![tactic(auto)]
+
 ghost use Rattle.std.specs.Prelude.{◌≡◌, false, [], ◌∷◌, ◌++◌, ◌+◌, ◌*◌, ◌≤◌, ◌<◌, length, take, drop};
 ghost use Rattle.basics.specs.Bits.{byte_bits};
 ghost use Rattle.tables.specs.Tables.{most_payload, most_list};

@@ -1,4 +1,6 @@
 // What a matrix holds, as it was read: the copies of the words, and the codewords with their flags. A module is 0 light, 1 dark, 2 unreadable.
+#![tactic(auto)]
+
 ghost use Rattle.std.specs.Prelude.{◌≡◌, map, ℕ, ◌+◌, ◌-◌, ◌*◌, ◌^◌, ◌≤◌, ◌<◌, eqb, ltb, length, get_or, take};
 ghost use Rattle.basics.specs.Sums.{one};
 ghost use Rattle.basics.specs.Lists.{up_to, AtMost};
