@@ -1,0 +1,16 @@
+-- `text::put_hex` meets its contract: before turn k the first k bytes are written in hex and the others are left.
+use mathlib.Core.Path.{ap}
+use mathlib.Core.List.{List, ◌∷◌}
+use Prim.Native.Nat.{ℕ, ◌+◌, ◌-◌, ◌/◌, ◌%◌, ◌≤◌}
+use native.Mathlib.Omega.{arith}
+use lib.ListN.{length, get_or, drop}
+use Rattle.text.specs.Text.{hex, hex_digit}
+use Rattle.text.proofs.Pasting.{Progress, start as start_Writing, said, room, more, done, kept}
+use Rattle.text.proofs.Turns.{hex_turn, none_left}
+use Rattle.text.proofs.put_hex.Given as goal
+
+abbrev pub invariant-loop-k : goal.invariant-loop-k
+invariant-loop-k l = (l.k ≤ length l.bytes) × Progress l.initial.out l.at (hex l.bytes) l.out l.next (hex (drop l.k l.bytes))
+
+abbrev pub decreases-loop-k : goal.decreases-loop-k
+decreases-loop-k l = length l.bytes - l.k
