@@ -1,5 +1,4 @@
 -- `text::hex_digit` meets its contract.
-use borrow.Author.Rules.{rules}
 use borrow.Author.Tests.{lt-ltb, le-ltb}
 use Rattle.text.specs.Text.{hex_digit}
 use Rattle.text.proofs.hex_digit.Goals as goal

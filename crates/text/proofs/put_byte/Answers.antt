@@ -1,5 +1,4 @@
 -- `text::put_byte` meets its contract: one byte is stored.
-use borrow.Author.Rules.{rules}
 use Rattle.text.proofs.Pasting.{stored}
 use Rattle.text.proofs.put_byte.Goals as goal
 

@@ -1,9 +1,7 @@
 -- `text::put_bytes` meets its contract: before turn k the first k bytes are written and the others are left.
 use Prim.Native.Nat.{◌-◌, ◌≤◌}
-use native.Mathlib.Omega.{arith}
 use lib.ListN.{length, drop}
-use Rattle.text.proofs.Pasting.{Progress, start, said, room, more, done, kept}
-use Rattle.text.proofs.Turns.{byte_turn, none_left}
+use Rattle.text.proofs.Pasting.{Progress}
 use Rattle.text.proofs.put_bytes.Given as goal
 
 abbrev pub invariant-loop-k : goal.invariant-loop-k

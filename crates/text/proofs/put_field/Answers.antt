@@ -1,5 +1,4 @@
 -- `text::put_field` meets its contract: the name, and then the number.
-use borrow.Author.Rules.{rules}
 use Rattle.text.proofs.Pasting.{then, room_first, room_next}
 use Rattle.text.proofs.put_field.Goals as goal
 

@@ -1,12 +1,8 @@
 -- `text::put_hex` meets its contract: before turn k the first k bytes are written in hex and the others are left.
-use mathlib.Core.Path.{ap}
-use mathlib.Core.List.{List, ◌∷◌}
-use Prim.Native.Nat.{ℕ, ◌+◌, ◌-◌, ◌/◌, ◌%◌, ◌≤◌}
-use native.Mathlib.Omega.{arith}
-use lib.ListN.{length, get_or, drop}
-use Rattle.text.specs.Text.{hex, hex_digit}
-use Rattle.text.proofs.Pasting.{Progress, start as start_Writing, said, room, more, done, kept}
-use Rattle.text.proofs.Turns.{hex_turn, none_left}
+use Prim.Native.Nat.{◌-◌, ◌≤◌}
+use lib.ListN.{length, drop}
+use Rattle.text.specs.Text.{hex}
+use Rattle.text.proofs.Pasting.{Progress}
 use Rattle.text.proofs.put_hex.Given as goal
 
 abbrev pub invariant-loop-k : goal.invariant-loop-k

@@ -1,13 +1,10 @@
 -- `text::put_segments` meets its contract.
 -- Before turn k the first k segments are written with their parts of the payload, and the others are left.
-use mathlib.Core.List.{List, ◌++◌}
-use Prim.Native.Nat.{ℕ, ◌+◌, ◌*◌, ◌-◌, ◌≤◌}
-use native.Mathlib.Omega.{arith}
-use lib.ListN.{length, drop, length-drop}
+use Prim.Native.Nat.{◌+◌, ◌*◌, ◌-◌, ◌≤◌}
+use lib.ListN.{length, drop}
 use Rattle.part.specs.Part.{start_of}
-use Rattle.text.specs.Text.{segment_text, segment_lines}
-use Rattle.text.proofs.Pasting.{Progress, start as start_Writing, said, room, more, done, kept}
-use Rattle.text.proofs.Turns.{segment_left, no_segment}
+use Rattle.text.specs.Text.{segment_lines}
+use Rattle.text.proofs.Pasting.{Progress}
 use Rattle.text.proofs.put_segments.Given as goal
 
 abbrev pub invariant-loop-k : goal.invariant-loop-k
