@@ -8,14 +8,6 @@ use Rattle.basics.specs.Sums.{one}
 use Rattle.scan.proofs.below.Goals as goal
 use Rattle.scan.proofs.below.Goals.{then-x-eq1, else-x-eq1, then-x-lt-UNREADABLE, else-x-lt-UNREADABLE}
 
-pub overflow_add-result : goal.overflow_add-result
-overflow_add-result c =
-    elim c.if-x-eq1.branch [ then-x-eq1 w ↦ omega arith | else-x-eq1 w ↦ omega arith ]
-
-pub overflow_add-result-2 : goal.overflow_add-result-2
-overflow_add-result-2 c =
-    elim c.if-x-lt-UNREADABLE.branch [ then-x-lt-UNREADABLE w ↦ omega arith | else-x-lt-UNREADABLE w ↦ omega arith ]
-
 pub returns : goal.returns
 returns c =
     let bit : c.if-x-eq1.bit ≡ one (eqb c.args.x 1) =
