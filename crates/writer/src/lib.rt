@@ -1,4 +1,6 @@
 // The writer: the symbol that a request gets, or the number of its refusal.
+#![tactic(auto)]
+
 ghost use Rattle.std.specs.Prelude.{◌≡◌, ◌+◌, ◌*◌, ◌<◌, ◌≤◌, length};
 ghost use Rattle.tables.specs.Tables.{last_version, most_codewords, total, Lawful, side as side_of};
 ghost use Rattle.stream.specs.Stream.{LawfulMessage, data_codewords};
@@ -223,7 +225,7 @@ fn draw_at(
 }
 
 // "Its answer: version, mask, side."
-#[derive(Drop)]
+#[derive(Clone, Copy)]
 pub struct Symbol {
     pub version: u32,
     pub mask: u32,
@@ -231,7 +233,7 @@ pub struct Symbol {
 }
 
 // What a request gets: a symbol, or the number of its refusal.
-#[derive(Drop)]
+#[derive(Clone, Copy)]
 pub enum Drawing {
     Drawn(Symbol),
     Refused(u8),

@@ -4,7 +4,6 @@ use Prim.Native.Nat.{ℕ, suc, ◌+◌, ◌*◌, ◌/◌, ◌%◌, ◌^◌}
 use lib.Bits.{bit_xor, xor_zero_r}
 use lib.Pow.{shr-shr}
 use Rattle.field.specs.Field.{dbl_n, mul_bits, mul_n}
-use borrow.Author.Rules.{rules}
 use Rattle.field.proofs.mul.Goals as goal
 
 top : (a b : ℕ) {p : ℕ} → p ≡ b / 2 ^ 7 % 2 * a → p ≡ mul_bits 1 a (b / 2 ^ 7)

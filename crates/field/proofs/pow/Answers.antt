@@ -1,7 +1,7 @@
 -- `field::pow` meets its contract: the power i is the product of the powers i/16·16 and i%16, which stand in the tables.
 use mathlib.Core.Path.{ap, ◌∙◌}
 use mathlib.Core.List.{List, [], ◌∷◌}
-use Prim.Native.Nat.{ℕ, ◌*◌, ◌/◌, ◌%◌, ◌<◌}
+use Prim.Native.Nat.{ℕ, ◌*◌, ◌/◌, ◌%◌}
 use native.Mathlib.Nat.{div-add-mod', mod-lt}
 use native.Mathlib.Omega.{arith}
 use lib.Dec.{T, lit<}
@@ -9,7 +9,6 @@ use lib.ListN.{get_or}
 use Rattle.basics.proofs.Test.{same, same_1}
 use Rattle.field.specs.Field.{pow_n}
 use Rattle.field.proofs.Laws.{pow_add}
-use borrow.Author.Rules.{rules}
 use Rattle.field.proofs.pow.Goals as goal
 
 low : List ℕ

@@ -1,5 +1,4 @@
 -- `field::step` meets its contract.
-use borrow.Author.Rules.{rules}
 use Rattle.field.proofs.step.Goals as goal
 
 pub returns : goal.returns

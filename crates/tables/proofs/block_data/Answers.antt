@@ -6,7 +6,6 @@ use native.Mathlib.Omega.{arith}
 use borrow.Author.Tests.{le-leb, lt-leb}
 use Rattle.tables.specs.Tables.{short_blocks, block_data}
 use Rattle.tables.proofs.Rules.{long_most}
-use borrow.Author.Rules.{rules}
 use Rattle.tables.proofs.block_data.Goals as goal
 
 pub overflow_add-result : goal.overflow_add-result

@@ -2,7 +2,6 @@
 use native.Mathlib.Omega.{arith}
 use Rattle.tables.specs.Tables.{block_length}
 use Rattle.tables.proofs.Rules.{block_length_most}
-use borrow.Author.Rules.{rules}
 use Rattle.tables.proofs.block_length.Goals as goal
 
 pub overflow_add-result : goal.overflow_add-result

@@ -4,7 +4,6 @@ use Prim.Native.Nat.{ℕ, ◌+◌, ◌-◌, ◌*◌, ◌≤◌}
 use native.Mathlib.Omega.{arith}
 use Rattle.tables.specs.Tables.{Lawful, block_count, short_length, short_blocks}
 use Rattle.tables.proofs.Rules.{block_start_lem, block_start_later, data_sum, data_most}
-use borrow.Author.Rules.{rules}
 use Rattle.tables.proofs.block_start.Goals as goal
 
 start_most : (v level b : ℕ) → Lawful v level → b ≤ block_count v level → b * short_length v level + (b - short_blocks v level) ≤ 274

@@ -5,7 +5,6 @@ use Prim.Native.Nat.{ℕ}
 use lib.ListN.{get_or}
 use Rattle.tables.specs.Tables.{block_rows, block_count}
 use Rattle.tables.proofs.Rules.{past_front}
-use borrow.Author.Rules.{rules}
 use Rattle.tables.proofs.blocks.Goals as goal
 
 pub returns : goal.returns

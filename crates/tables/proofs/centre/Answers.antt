@@ -7,7 +7,6 @@ use lib.Dec.{T, eqb, eqb→eq}
 use lib.ListN.{get_or}
 use Rattle.basics.proofs.Test.{all, grid}
 use Rattle.tables.specs.Tables.{centre_rows, centres}
-use borrow.Author.Rules.{rules}
 use Rattle.tables.proofs.centre.Goals as goal
 
 rows : List (List ℕ)

@@ -5,7 +5,6 @@ use Prim.Native.Nat.{ℕ}
 use lib.ListN.{get_or}
 use Rattle.tables.specs.Tables.{check_rows, check_count}
 use Rattle.tables.proofs.Rules.{past_front}
-use borrow.Author.Rules.{rules}
 use Rattle.tables.proofs.checks.Goals as goal
 
 pub returns : goal.returns

@@ -1,8 +1,7 @@
 -- `tables::data` meets its contract, by the rules of the table.
 use native.Mathlib.Omega.{arith}
-use Rattle.tables.specs.Tables.{data_count, total}
+use Rattle.tables.specs.Tables.{data_count}
 use Rattle.tables.proofs.Rules.{checks_fit, total_most}
-use borrow.Author.Rules.{rules}
 use Rattle.tables.proofs.data.Goals as goal
 
 pub overflow_mul-result : goal.overflow_mul-result

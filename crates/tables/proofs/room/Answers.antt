@@ -1,6 +1,5 @@
 -- `tables::room` meets its contract.
 use Rattle.tables.specs.Tables.{room}
-use borrow.Author.Rules.{rules}
 use Rattle.tables.proofs.room.Goals as goal
 
 pub returns : goal.returns

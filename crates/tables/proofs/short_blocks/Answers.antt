@@ -1,9 +1,7 @@
 -- `tables::short_blocks` meets its contract: there is a block.
-use Prim.Native.Nat.{◌-◌}
 use native.Mathlib.Nat.{mod-lt, le_of_lt}
 use Rattle.tables.specs.Tables.{short_blocks}
 use Rattle.tables.proofs.Rules.{blocks_least}
-use borrow.Author.Rules.{rules}
 use Rattle.tables.proofs.short_blocks.Goals as goal
 
 pub nonzero_rem-result : goal.nonzero_rem-result

@@ -1,7 +1,6 @@
 -- `tables::short_length` meets its contract: there is a block.
 use Rattle.tables.specs.Tables.{short_length}
 use Rattle.tables.proofs.Rules.{blocks_least}
-use borrow.Author.Rules.{rules}
 use Rattle.tables.proofs.short_length.Goals as goal
 
 pub nonzero_div-result : goal.nonzero_div-result

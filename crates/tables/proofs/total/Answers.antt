@@ -2,7 +2,6 @@
 use mathlib.Core.Path.{◌∙◌}
 use Rattle.tables.specs.Tables.{totals, total}
 use Rattle.tables.proofs.Rules.{past_front}
-use borrow.Author.Rules.{rules}
 use Rattle.tables.proofs.total.Goals as goal
 
 pub returns : goal.returns

@@ -1,13 +1,12 @@
 -- `tables::version_of` meets its contract. The loop's invariant: the length is that of no version passed.
 use mathlib.Core.Path.{sym}
 use Rattle.tables.specs.Tables.{side}
-use Prim.Native.Nat.{ℕ, ◌-◌, ◌*◌, ◌^◌, ◌≤◌, ◌<◌}
+use Prim.Native.Nat.{ℕ, ◌*◌, ◌^◌, ◌≤◌, ◌<◌}
 use lib.Dec.{ltb, ltb→lt}
 use Rattle.basics.proofs.Test.{at}
 use native.Mathlib.Omega.{arith}
 use borrow.Author.Count.{below_more}
 use borrow.Author.Rules.{rules}
-use Rattle.tables.specs.Version.{Square}
 use Rattle.tables.proofs.version_of.Goals as goal
 
 small : (v : ℕ) → v ≤ 10 → side v * side v < 2 ^ 64

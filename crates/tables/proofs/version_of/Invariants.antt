@@ -1,12 +1,5 @@
 -- `tables::version_of` meets its contract. The loop's invariant: the length is that of no version passed.
-use mathlib.Core.Path.{sym}
-use Rattle.tables.specs.Tables.{side}
-use Prim.Native.Nat.{ℕ, ◌-◌, ◌*◌, ◌^◌, ◌≤◌, ◌<◌}
-use lib.Dec.{ltb, ltb→lt}
-use Rattle.basics.proofs.Test.{at}
-use native.Mathlib.Omega.{arith}
-use borrow.Author.Count.{below_more}
-use borrow.Author.Rules.{rules}
+use Prim.Native.Nat.{ℕ, ◌-◌, ◌≤◌, ◌<◌}
 use Rattle.tables.specs.Version.{Square}
 use Rattle.tables.proofs.version_of.Given as goal
 
