@@ -15,8 +15,3 @@ pub loop-roots-preserved : goal.loop-roots-preserved
 unfolding pow_n
 loop-roots-preserved c = let l = c.loop-roots in
     (search rules, rw (add-one, c.dbl-root.ensures, l.invariant.1), generator_more l.roots l.root l.g _ (search rules) l.invariant.1 l.invariant.2 c.times_root-next.ensures)
-
-pub returns : goal.returns
-returns c = let l = c.loop-roots in
-    let e : l.roots ≡ c.args.n = omega arith in
-    rw e at l.invariant.2

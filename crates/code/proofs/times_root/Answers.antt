@@ -20,8 +20,3 @@ unfolding rooted
 loop-k-preserved c = let l = c.loop-k in
     let a = c.args in
     (search rules, simp length-set l.invariant.1, build_put (rooted a.g a.a) l.r (l.k + 1) _ l.invariant.2 (search rules) (rw (c.mul.ensures, add-one)))
-
-pub returns : goal.returns
-returns c = let l = c.loop-k in
-    let e : l.k ≡ 32 = omega arith in
-    build_all _ _ 33 l.invariant.1 (rw e at l.invariant.2)

@@ -15,7 +15,3 @@ loop-read-init c = (search rules, values_none)
 pub loop-read-preserved : goal.loop-read-preserved
 loop-read-preserved c = let l = c.loop-read in
     (search rules, values_more _ l.s _ _ l.read (search rules) l.invariant.1 c.powers-p.ensures c.horner-next.ensures)
-
-pub returns : goal.returns
-returns c = let l = c.loop-read in
-    l.invariant.1 ∙ ap (λ w. build (λ i. value (pow_n i) w) 32) (take_all l.read _ (omega arith))

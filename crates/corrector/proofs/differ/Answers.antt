@@ -13,11 +13,6 @@ use Rattle.corrector.proofs.differ.Goals as goal
 pub loop-j-init : goal.loop-j-init
 loop-j-init c = (omega arith, counted_start _)
 
-pub overflow_add-t : goal.overflow_add-t
-overflow_add-t c = let l = c.loop-j in
-    let a = c.args in
-    omega (arith, one_most (eqb (get_or a.flags.now l.j 0) 0 && not (eqb (get_or a.word.now l.j 0) (get_or a.c.now l.j 0))), c.apart-t.ensures)
-
 pub loop-j-preserved : goal.loop-j-preserved
 loop-j-preserved c = let l = c.loop-j in
     let a = c.args in

@@ -24,9 +24,6 @@ traced :
     → Traced w flags s left st.a st.b n e st.i st.l st.e found.at found.xs found.count
 traced st found asked bytes folded run whole listed = record { asked = asked; bytes = bytes; folded = folded; run = run; whole = whole; found = listed }
 
-pub suspected-found-requires : goal.suspected-found-requires
-suspected-found-requires c = (omega arith, omega arith, rw add-one c.run-st.ensures.0.monic.below)
-
 pub returns-then-n-count : goal.returns-then-n-count
 returns-then-n-count c = let k =
     traced c.run-st.result c.suspected-found.result c.requires (λ j l. let f : Fits w8 (get_or c.args.word.now j 0) = search rules in omega (arith, f))

@@ -15,20 +15,6 @@ pub loop-top-init : goal.loop-top-init
 unfolding filled powers
 loop-top-init c = (powers_row, omega arith, λ h. located_start _, found_start _ _)
 
-pub values-vs-requires : goal.values-vs-requires
-values-vs-requires c = (c.requires.1, c.requires.2)
-
-pub grouped-found-requires : goal.grouped-found-requires
-grouped-found-requires c = let l = c.loop-top in
-    let many = c.least-many.ensures in
-    (l.invariant.3.small, c.requires.0, l.invariant.1, many.within, many.small)
-
-pub overflow_sub-top : goal.overflow_sub-top
-overflow_sub-top c = c.least-many.ensures.within
-
-pub loop-top-smaller : goal.loop-top-smaller
-loop-top-smaller c = let many = c.least-many.ensures in omega (arith, many.within, many.some (omega arith))
-
 pub loop-top-preserved : goal.loop-top-preserved
 unfolding filled
 loop-top-preserved c = let l = c.loop-top in
@@ -45,8 +31,3 @@ loop-top-preserved c = let l = c.loop-top in
           (λ i m. here i (omega (arith, least.ensures.small)) ∙ ap pow_n (omega (arith, least.ensures.within, l.invariant.1)))
           l.invariant.3,
     )
-
-pub returns : goal.returns
-returns c = let l = c.loop-top in
-    let z : l.top ≡ 0 = omega arith in
-    rw z at l.invariant.3
