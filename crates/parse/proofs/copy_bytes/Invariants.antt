@@ -1,8 +1,7 @@
 -- `parse::copy_bytes` meets its contract.
 use Prim.Native.Nat.{◌-◌}
-use native.Mathlib.Omega.{arith}
 use lib.ListN.{length}
-use Rattle.parse.proofs.Copying.{Copying, copying_none, copying_more, copying_all}
+use Rattle.parse.proofs.Copying.{Copying}
 use Rattle.parse.proofs.copy_bytes.Given as goal
 
 abbrev pub invariant-loop-i : goal.invariant-loop-i

@@ -2,7 +2,6 @@
 use mathlib.Core.Path.{sym, ap, ◌∙◌}
 use Prim.Native.Nat.{ℕ}
 use lib.Dec.{eqb}
-use borrow.Author.Rules.{rules}
 use Rattle.parse.proofs.Heads.{few_left, four_left}
 use Rattle.parse.proofs.ends.Goals as goal
 

@@ -1,7 +1,6 @@
 -- `parse::put_three` meets its contract.
 use native.Mathlib.Omega.{arith}
 use lib.ListN.{length-set}
-use borrow.Author.Rules.{rules}
 use Rattle.parse.proofs.Groups.{put_three}
 use Rattle.parse.proofs.put_three.Goals as goal
 

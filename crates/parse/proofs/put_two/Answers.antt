@@ -1,7 +1,6 @@
 -- `parse::put_two` meets its contract.
 use native.Mathlib.Omega.{arith}
 use lib.ListN.{length-set}
-use borrow.Author.Rules.{rules}
 use Rattle.parse.proofs.Groups.{put_two}
 use Rattle.parse.proofs.put_two.Goals as goal
 

@@ -1,10 +1,6 @@
 -- `parse::read_body` meets its contract. The invariant: what is written and what is left make the body.
-use mathlib.Core.Path.{◌≡◌, ◌∙◌}
 use Prim.Native.Nat.{◌-◌}
-use native.Mathlib.Omega.{arith}
-use borrow.Author.Rules.{rules}
-use Rattle.cursor.specs.Cursor.{field}
-use Rattle.parse.proofs.Along.{Along, along_none, along_all, Turn, turn}
+use Rattle.parse.proofs.Along.{Along}
 use Rattle.parse.proofs.read_body.Given as goal
 
 abbrev pub invariant-loop-done : goal.invariant-loop-done
