@@ -1,7 +1,6 @@
 -- `code::generator` meets its contract: after i turns the generator for i checks stands in the array.
-use mathlib.Core.Path.{◌≡◌, refl}
+use mathlib.Core.Path.{refl}
 use native.Mathlib.Numerals.{add-one}
-use native.Mathlib.Omega.{arith}
 use borrow.Author.Rules.{rules}
 use Rattle.field.specs.Field.{pow_n}
 use Rattle.code.proofs.Division.{generator_none, generator_more}

@@ -1,13 +1,11 @@
 -- `code::times_root` meets its contract: the loop builds the coefficients from the front, the first of which stays.
-use mathlib.Core.Path.{◌≡◌}
 use Prim.Native.Nat.{◌+◌}
 use native.Mathlib.Numerals.{add-one}
-use native.Mathlib.Omega.{arith}
 use lib.Seq.{take-suc}
 use borrow.Author.Rules.{rules}
 use lib.ListN.{length-set}
 use Rattle.basics.specs.Build.{build}
-use Rattle.basics.proofs.Build.{build_put, build_all}
+use Rattle.basics.proofs.Build.{build_put}
 use Rattle.code.specs.Lanes.{rooted}
 use Rattle.code.proofs.times_root.Goals as goal
 

@@ -1,11 +1,5 @@
 -- `code::values` meets its contract: after that many turns the values are those of the codewords that were read.
-use mathlib.Core.Path.{ap, ◌∙◌}
-use native.Mathlib.Omega.{arith}
 use borrow.Author.Rules.{rules}
-use lib.Seq.{take_all}
-use Rattle.basics.specs.Build.{build}
-use Rattle.field.specs.Field.{pow_n}
-use Rattle.code.specs.Code.{value}
 use Rattle.code.proofs.Value.{values_none, values_more}
 use Rattle.code.proofs.values.Goals as goal
 

@@ -1,11 +1,10 @@
 -- `corrector::correct` meets its contract.
-use mathlib.Core.Path.{refl, sym}
+use mathlib.Core.Path.{refl}
 use native.Mathlib.Omega.{arith}
 use mir.Val.{Fits}
 use mir.Syntax.{w8}
-use lib.ListN.{length, get_or, take}
-use lib.Seq.{length-take-le}
-use Rattle.corrector.proofs.Testing.{clean, none, stood}
+use lib.ListN.{get_or}
+use Rattle.corrector.proofs.Testing.{clean, none}
 use borrow.Author.Rules.{rules}
 use Rattle.corrector.proofs.correct.Goals as goal
 

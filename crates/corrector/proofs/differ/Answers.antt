@@ -7,7 +7,7 @@ use lib.Dec.{eqb}
 use lib.ListN.{get_or}
 use Rattle.basics.specs.Sums.{tally}
 use Rattle.code.specs.Code.{differing}
-use Rattle.corrector.proofs.Counting.{counted_start, counted_step, one_most}
+use Rattle.corrector.proofs.Counting.{counted_start, counted_step}
 use Rattle.corrector.proofs.differ.Goals as goal
 
 pub loop-j-init : goal.loop-j-init

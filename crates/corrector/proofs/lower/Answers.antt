@@ -1,7 +1,7 @@
 -- `corrector::lower` meets its contract.
 use borrow.Author.Rules.{rules}
 use native.Mathlib.Omega.{arith}
-use Rattle.corrector.proofs.Late.{lowered_start, lowered_turn, lowered_all}
+use Rattle.corrector.proofs.Late.{lowered_start, lowered_all}
 use Rattle.corrector.proofs.lower.Goals as goal
 
 pub loop-k-init : goal.loop-k-init

@@ -4,7 +4,7 @@ use mathlib.Core.Bool.{true, not, ◌||◌}
 use native.Mathlib.Omega.{arith}
 use lib.Dec.{eqb}
 use borrow.Author.Tests.{eq-eqb, ne_eqb}
-use Rattle.corrector.proofs.Listing.{found_pass, found_full, found_more}
+use Rattle.corrector.proofs.Listing.{found_pass, found_more}
 use Rattle.corrector.proofs.noted.Goals as goal
 use Rattle.corrector.proofs.noted.Goals.{then-flag-eq0+else-v-ne0, else-flag-eq0}
 

@@ -1,5 +1,4 @@
 -- `corrector::proposed` meets its contract.
-use native.Mathlib.Numerals.{add-one}
 use native.Mathlib.Omega.{arith}
 use mir.Val.{Fits}
 use mir.Syntax.{w8}

@@ -3,12 +3,11 @@ use borrow.Author.Rules.{rules}
 use Prim.Native.Nat.{ℕ, ◌+◌, ◌-◌}
 use mathlib.Core.Path.{◌≡◌, sym, ap, ◌∙◌}
 use native.Mathlib.Omega.{arith}
-use mir.Val.{Fits}
-use mir.Syntax.{w8}
 use lib.ListN.{length, get_or}
 use Rattle.field.specs.Field.{pow_n}
 use Rattle.corrector.specs.Lanes.{filled}
 use Rattle.corrector.proofs.Listing.{Located, located_start, located_turn, found_start, powers, powers_row}
+use Rattle.corrector.proofs.Rows.{row}
 use Rattle.corrector.proofs.suspected.Goals as goal
 
 pub loop-top-init : goal.loop-top-init
@@ -22,7 +21,7 @@ loop-top-preserved c = let l = c.loop-top in
     let least = c.least-many in
     let here : Located (length flags) l.top l.xs = l.invariant.2 (omega arith) in
     let t = c.times_plus-next.result in (
-      record { long = search rules; bytes = λ h. let f : Fits w8 (get_or t h 0) = search rules in omega (arith, f) },
+      row t (search rules) (λ h. search rules),
       omega arith,
       λ h i m.
           let full : least.result ≡ 32 = least.ensures.full (omega arith) in

@@ -1,5 +1,5 @@
 -- `corrector::total` meets its contract.
-use mathlib.Core.Path.{◌≡◌, refl}
+use mathlib.Core.Path.{refl}
 use native.Mathlib.Omega.{arith}
 use Rattle.theory.proofs.Sum.{sum}
 use Rattle.corrector.proofs.Rows.{total_step}

@@ -1,6 +1,6 @@
 -- `corrector::without` meets its contract.
 use mathlib.Core.Path.{ap, ◌∙◌}
-use borrow.Author.Tests.{eq-eqb, ne_eqb}
+use borrow.Author.Tests.{ne_eqb}
 use Rattle.corrector.specs.Lanes.{filled, times_plus}
 use Rattle.corrector.proofs.without.Goals as goal
 
