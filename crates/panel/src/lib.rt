@@ -1,4 +1,6 @@
 // The entries for the panel's firmware, called from C as include/kqs.h says: numbers and slices in, a struct by value out. Each answers every input.
+#![tactic(auto)]
+
 ghost use Rattle.std.specs.Prelude.{◌≡◌, ◌<◌, ◌^◌, length};
 ghost use Rattle.writer.specs.Writer.{request};
 ghost use Rattle.part.specs.Part.{span_of};
@@ -10,7 +12,7 @@ use writer::Drawing;
 
 // What `kqs_write` answers: a refusal has zeros behind its number, and a symbol has 0 in front.
 #[repr(C)]
-#[derive(Drop)]
+#[derive(Clone, Copy)]
 pub struct KqsDrawn {
     pub refusal: u32,
     pub version: u32,
@@ -20,7 +22,7 @@ pub struct KqsDrawn {
 
 // What `kqs_read` answers, in the same way.
 #[repr(C)]
-#[derive(Drop)]
+#[derive(Clone, Copy)]
 pub struct KqsReading {
     pub refusal: u32,
     pub version: u32,
