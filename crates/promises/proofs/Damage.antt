@@ -19,7 +19,7 @@ use Rattle.parse.specs.Parse.{Message, message}
 use Rattle.blocks.specs.Blocks.{gathered, data_of}
 use Rattle.modules.specs.Modules.{format_places, version_places}
 use Rattle.scan.specs.Received.{copied, readable, received}
-use Rattle.writer.specs.Writer.{Request, Drawn, draw, codewords}
+use Rattle.writer.specs.Writer.{Request, Drawn, draw}
 use Rattle.reader.specs.Reader.{Read, Reads, decided, OtherVersion, TwoFormats, AllStand, FormatStands, block_word, block_flags}
 use Rattle.promises.specs.Promises.{Bytes, LargeEnough, wrong, lost, Survives}
 

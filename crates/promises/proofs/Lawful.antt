@@ -9,7 +9,7 @@ use Rattle.basics.specs.Sums.{sum}
 use Rattle.tables.specs.Tables
 use Rattle.tables.proofs.Rules.{room_most, checks_most, blocks_most}
 use Rattle.stream.specs.Stream.{LawfulMessage}
-use Rattle.parse.specs.Parse.{Parsed, Message, Fault, message}
+use Rattle.parse.specs.Parse.{Parsed, Message, Fault}
 use Rattle.parse.proofs.Lawful.{parsed_lawful, buffers_enough}
 use Rattle.scan.specs.Received.{received}
 use Rattle.reader.specs.Reader.{Read, Refused, decided, First, Reads}

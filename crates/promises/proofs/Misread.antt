@@ -1,7 +1,6 @@
 -- A block of a drawn symbol that is read as another codeword than the drawn one has many codewords wrong or lost: the code's own law, told of the block.
 use mathlib.Core.Path.{sym, ◌∙◌}
 use native.Mathlib.Omega.{arith}
-use lib.ListN.{length}
 use Rattle.basics.proofs.Lists.{length_map_up_to}
 use Rattle.tables.proofs.Rules.{block_length_most}
 use Rattle.code.proofs.Misread.{misread_needs}

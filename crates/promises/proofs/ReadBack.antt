@@ -1,9 +1,9 @@
 -- What the writer draws holds the message that was asked for, so it reads back, and survives any damage within its bounds.
 use mathlib.Core.Path.{◌≡◌, refl, sym, ap, subst, subst₂, ◌∙◌}
-use mathlib.Core.Logic.{inl, inr, by_cases}
+use mathlib.Core.Logic.{by_cases}
 use mathlib.Core.Bool.{Bool, true, false}
 use mathlib.Core.List.{List}
-use Prim.Native.Nat.{ℕ, ◌≤◌, ◌<◌}
+use Prim.Native.Nat.{ℕ, ◌<◌}
 use native.Mathlib.Decide.{ℕ_discrete}
 use native.Mathlib.Omega.{arith}
 use lib.ListN.{length}

@@ -1,7 +1,7 @@
 -- Two matrices that agree on data modules (the surplus left out), format and version modules get one answer: the copies, the codewords and the
 -- flags are the same numbers, so each step of `Reads` is the same.
 use mathlib.Core.Path.{◌≡◌, refl, sym, ap, ap₂, subst, ◌∙◌}
-use mathlib.Core.Logic.{◌⊎◌, inl, inr, ⊎_elim, by_cases}
+use mathlib.Core.Logic.{inl, inr, ⊎_elim, by_cases}
 use mathlib.Core.Bool.{cond}
 use mathlib.Core.List.Memᴰ
 use mathlib.Core.List.{List, [], ◌∷◌, map, Memᴰ}

@@ -1,1 +1,3 @@
+#![tactic(auto)]
+
 // What holds of writer and reader together. No code.
