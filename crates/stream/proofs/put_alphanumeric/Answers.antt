@@ -11,7 +11,7 @@ use Rattle.stream.proofs.Put.{going_start, going_room, going_field, going_done}
 use Rattle.stream.proofs.put_alphanumeric.Goals as goal
 
 pub loop-i-init : goal.loop-i-init
-loop-i-init c = (omega arith, going_start _ _ _ (λ i l. omega (arith, c.slice_known-1.given i)))
+loop-i-init c = (omega arith, going_start _ _ _ (λ i l. omega (arith, c.type_inv.out i)))
 
 pub put-c-requires : goal.put-c-requires
 put-c-requires c = let l = c.loop-i in

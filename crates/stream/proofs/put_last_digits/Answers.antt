@@ -24,4 +24,4 @@ returns-then-chars-eq1 c = let e : numeric_bits c.args.chars.now ≡ bits 4 c.co
     put_field 4 _ e c.put-then-chars-eq1.ensures.0 c.put-then-chars-eq1.ensures.1
 
 pub returns : goal.returns
-returns c = put_nothing (no_digit c.args.chars.now c.requires.0 c.if-chars-eq2.false c.if-chars-eq1.false) (λ i l. omega (arith, c.slice_known-1.given i))
+returns c = put_nothing (no_digit c.args.chars.now c.requires.0 c.if-chars-eq2.false c.if-chars-eq1.false) (λ i l. omega (arith, c.type_inv.out i))

@@ -12,7 +12,7 @@ use Rattle.cursor.proofs.Cursor.put.Goals as goal
 
 pub loop-k-init : goal.loop-k-init
 loop-k-init c = let a = c.args in
-    (omega arith, (refl, (λ i l. omega (arith, c.slice_known-1.given i), paste-zero _ a.self.at (bits a.n a.value))))
+    (omega arith, (refl, (λ i l. omega (arith, c.type_inv.out i), paste-zero _ a.self.at (bits a.n a.value))))
 
 pub loop-k-preserved : goal.loop-k-preserved
 loop-k-preserved c = let l = c.loop-k in
