@@ -1,5 +1,6 @@
 -- From the codewords as they were received to the data codewords of the corrected blocks: gathered block by block, corrected, and taken in order.
-use mathlib.Core.Path.{◌≡◌, ap, ◌∙◌}
+use mathlib.Core.Path.{◌≡◌, refl, ap, subst, subst₂, ◌∙◌}
+use mathlib.Core.Logic.{inr}
 use mathlib.Core.List.{List, ◌++◌, map}
 use Prim.Native.Nat.{ℕ, ◌≤◌, ◌<◌}
 use native.Mathlib.Omega.{arith}
@@ -7,8 +8,9 @@ use lib.ListN.{length, get_or, take, length-append}
 use lib.Seq.{take_at, length-take-le}
 use Rattle.basics.specs.Lists.{up_to}
 use Rattle.basics.proofs.Lists.{map_up_to_same, get_d_map_up_to, length_map_up_to}
-use Rattle.tables.specs.Tables.{Lawful, total, data_count, block_count, block_data, block_start, block_length}
+use Rattle.tables.specs.Tables.{Lawful, total, data_count, block_count, block_data, block_start, check_count, block_length, room}
 use Rattle.tables.proofs.Rules.{data_sum}
+use Rattle.code.specs.Code.{Stands}
 use Rattle.blocks.specs.Blocks.{gathered, gathered_all, block_of, data_of}
 use Rattle.blocks.proofs.Cuts.{length_joined}
 use Rattle.blocks.proofs.Order.{sent_once}
@@ -17,8 +19,11 @@ use Rattle.parse.specs.Parse.{most_data}
 use Rattle.parse.proofs.Encode.{data_most}
 use Rattle.scan.specs.Received.{received, codeword, flag, codewords, flags}
 use Rattle.reader.specs.declared.Sums.{Sums}
-use Rattle.reader.specs.Reader.{block_word, block_flags}
-use Rattle.reader.specs.Steps.{Collected, WithinBounds}
+use Rattle.reader.specs.declared.Mended.{Mended}
+use Rattle.reader.specs.declared.Mended.TheVariants.{Within}
+use Rattle.reader.specs.Reader.{block_word, block_flags, BlockStands}
+use Rattle.reader.specs.Steps.{Collected, Standing, wrong_in, lost_in, AllMended, BlocksMended, WithinBounds, DataMended}
+use Rattle.reader.proofs.Passing.{step_passed}
 
 -- as many codewords and flags as the version has
 pub codewords_long : (v mask : ℕ) (m : List ℕ) → length (codewords v mask m) ≡ total v
@@ -55,6 +60,29 @@ module _ (v level : ℕ) (lawful : Lawful v level) where
         words_of = λ b h. rw (hb, hw) (gathered_block (codeword (received v mask m)) b h);
         flags_of = λ b h. rw (hl, hm) (gathered_block (flag (received v mask m)) b h);
       }
+
+module _ (v level : ℕ) (bs blocks lost mended held : List ℕ) (c : Collected v level bs blocks lost) (r : Mended) (done : BlocksMended v level blocks lost mended r) where
+  forth : (b : ℕ) → b < block_count v level → (d : List ℕ) (t e : ℕ) → Standing v level blocks lost b d t e → BlockStands v level bs b d t e
+  forth b h d t e = subst₂ (λ (x y : List ℕ). Stands (check_count v level) (room v level) x y d t e) (c.words_of b h) (c.flags_of b h)
+
+  all_mended : (s : Sums) → r ≡ Within s → AllMended v level blocks lost mended s
+  all_mended s e = step_passed 11 (subst (BlocksMended v level blocks lost mended) e done)
+
+  pub data_within : (s : Sums) → r ≡ Within s → held ≡ data_of v level (block_of v level mended) → DataMended v level bs held (Within s)
+  data_within s e d =
+      let a = all_mended s e in
+      inr (
+        refl,
+        record {
+          blocks = block_of v level mended;
+          ts = wrong_in v level blocks lost mended;
+          es = lost_in v level lost;
+          stand = λ b h. forth b h _ _ _ (a.stand b h);
+          data_is = d;
+          differing_sum = a.differing_sum;
+          unreadable_sum = a.unreadable_sum;
+        },
+      )
 
 -- as many data codewords as the version and level has
 pub data_length : (v level : ℕ) (bs : List ℕ) (blocks : ℕ → List ℕ) → Lawful v level

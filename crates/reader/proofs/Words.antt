@@ -17,7 +17,7 @@ use Rattle.scan.specs.Received.{copied, readable}
 use Rattle.scan.specs.Scan.{CopyRead}
 use Rattle.scan.proofs.Copies.{format_length, version_length, readable_lt}
 use Rattle.reader.specs.declared.Meta.{Meta}
-use Rattle.reader.specs.declared.Copies.TheVariants.{Agreeing}
+use Rattle.reader.specs.declared.Copies.TheVariants.{Agreeing, Other}
 use Rattle.reader.specs.declared.Format.TheVariants.{NoWord as NotFormatted}
 use Rattle.reader.specs.Reader.{FormatStands, NoFormat}
 use Rattle.reader.specs.Steps.{VersionCopy, FormatRead, FormatsRead}
@@ -40,6 +40,9 @@ module _ (m : List ℕ) (v copy : ℕ) (drawn : 7 ≤ v) (which : copy < 2) (f :
   copy_same x w e p q =
       let k = near x e in
       inr (refl, λ y n s. n (version_only _ _ y x s.near.least s.near.most k.least k.most s.near.near k.near ∙ sym p ∙ q))
+
+  pub copy_other : (x w : ℕ) → f ≡ Word x → w ≡ x → (w ≡ v → ⊥) → VersionCopy v m copy Other
+  copy_other x w e p q = inl (refl, (x, (λ z. q (p ∙ z)), record { which = which; drawn = drawn; near = near x e }))
 
 -- ---- format copies
 
