@@ -1,9 +1,9 @@
 -- Data codewords in front, and the checks of each block behind them: what the buffer holds once the first b blocks have their checks,
 -- what its parts are, and that a block's data and its checks are the block.
-use mathlib.Core.Path.{◌≡◌, refl, sym, ap, ap₂, ◌∙◌}
+use mathlib.Core.Path.{◌≡◌, sym, ap, ap₂, ◌∙◌}
 use mathlib.Core.List.{List, [], ◌++◌, map, append-nil, append_assoc}
 use Prim.Native.Nat.{ℕ, zero, suc, ◌+◌, ◌-◌, ◌*◌, ◌<◌, ◌≤◌}
-use native.Mathlib.Nat.{add-sub_cancel_left, suc-mul, zero-mul, mul-le-mul_right, mul_comm}
+use native.Mathlib.Nat.{suc-mul, zero-mul, mul-le-mul_right, mul_comm}
 use native.Mathlib.Numerals.{add-one}
 use native.Mathlib.Omega.{arith}
 use lib.ListN.{length, take, drop, length-append, length-drop, take-append-drop}

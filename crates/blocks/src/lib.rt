@@ -1,4 +1,6 @@
 // The cut into blocks, and the order in which their codewords are sent.
+#![tactic(auto)]
+
 ghost use Rattle.std.specs.Prelude.{◌≡◌, ◌+◌, ◌*◌, ◌≤◌, ◌<◌, ◌++◌, length, get_or, take};
 ghost use Rattle.tables.specs.Tables.{Lawful, total, check_count, block_count, data_count, block_data, block_length};
 ghost use Rattle.blocks.specs.Blocks.{data_then_checks, sent, place_by, dealt, sent_place, gathered, gathered_all, block_of, data_of};

@@ -8,7 +8,6 @@ use native.Mathlib.Omega.{arith}
 use lib.Dec.{lit<}
 use lib.Bits.{bit_xor, xor_lt}
 use lib.ListN.{length, get_or, get_or-eq_default}
-use Rattle.basics.specs.Build.{build}
 use Rattle.basics.proofs.Build.{build_length, build_get}
 use Rattle.field.specs.Field.{mul_n, pow_n}
 use Rattle.field.proofs.Byte.{Byte, val, elt, elt_add, elt_mul, val_elt}

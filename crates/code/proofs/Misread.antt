@@ -13,7 +13,7 @@ use Rattle.field.proofs.Byte.{elt}
 use Rattle.theory.proofs.Places.{Agree, psum}
 use Rattle.theory.proofs.Distance as theory
 use Rattle.theory.proofs.Gf.{gf256, locators, locators_apart}
-use Rattle.code.specs.Code.{Codeword, Stands, differing, unreadable}
+use Rattle.code.specs.Code.{Codeword, differing, unreadable}
 use Rattle.code.specs.Misread.{MisreadNeeds}
 use Rattle.code.proofs.Bridge.{word, codeword_sums}
 use Rattle.code.proofs.Places.{unread, wrong, length_unread, length_wrong, stands_agree}

@@ -1,8 +1,10 @@
 // The code of a block: the checks of data, written into a lent part, and the values of a word at the powers of 2.
+#![tactic(auto)]
+
 ghost use Rattle.std.specs.Prelude.{◌≡◌, ◌++◌, ◌-◌, ◌≤◌, length, take, drop, replicate};
 ghost use Rattle.basics.specs.Build.{build};
 ghost use Rattle.field.specs.Field.{pow_n};
-ghost use Rattle.code.specs.Code.{value, checks, syndromes_of, generator as generatorOf};
+ghost use Rattle.code.specs.Code.{value, checks, syndromes_of, generator as generator_of};
 ghost use Rattle.code.specs.Lanes.{lanes, coefficients, rooted, reduced, padded, hornered};
 
 // The coefficients that a loop takes together: more than any block has checks, and a whole number of vectors.
@@ -27,7 +29,7 @@ fn times_root(g: [u8; COEFFICIENTS], a: u8) -> [u8; COEFFICIENTS]
 // The generator for n checks, the highest power first.
 fn generator(n: usize) -> [u8; COEFFICIENTS]
     requires { n ≤ 30 }
-    ensures { result ≡ padded coefficients (generatorOf n) }
+    ensures { result ≡ padded coefficients (generator_of n) }
 {
     let mut g: [u8; COEFFICIENTS] = [0; COEFFICIENTS];
     g[0] = 1;

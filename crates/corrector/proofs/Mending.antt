@@ -1,6 +1,6 @@
 -- A word, with values added at listed places one after the other.
 use mathlib.Core.Path.{◌≡◌, sym, ◌∙◌}
-use mathlib.Core.Logic.{◌⊎◌, inl, inr, ⊎_elim, by_cases}
+use mathlib.Core.Logic.{inl, inr, ⊎_elim, by_cases}
 use mathlib.Core.List.{List}
 use Prim.Native.Nat.{ℕ, ◌+◌, ◌<◌}
 use native.Mathlib.Decide.{ℕ_discrete}

@@ -1,5 +1,5 @@
 -- The places of a block that may differ from its codeword.
-use Rattle.std.specs.Prelude.{◌≡◌, Bool, not, cond, ◌||◌, List, [], ◌∷◌, ◌++◌, ◌⊎◌, ℕ, zero, suc, ◌-◌, ◌+◌, ◌<◌, ◌≤◌, eqb, length, get_or, take}
+use Rattle.std.specs.Prelude.{◌≡◌, Bool, not, cond, ◌||◌, List, [], ◌∷◌, ◌++◌, ◌⊎◌, ℕ, zero, suc, ◌-◌, ◌<◌, ◌≤◌, eqb, length, get_or, take}
 use Rattle.std.specs.Int.Bits.{bit_xor}
 use Rattle.field.specs.Field.{pow_n}
 use Rattle.field.proofs.Byte.{val, mul, inv}

@@ -1,11 +1,13 @@
 // The corrector: the one codeword that a block stands for, or none.
+#![tactic(auto)]
+
 ghost use Rattle.std.specs.Prelude.{◌≡◌, cond, not, ◌&&◌, ℕ, suc, ◌+◌, ◌-◌, ◌<◌, ◌≤◌, eqb, length, get_or};
 ghost use Rattle.basics.specs.Sums.{one};
 ghost use Rattle.field.specs.Field.{inv_n};
 ghost use Rattle.field.proofs.Byte.{elt};
 ghost use Rattle.theory.proofs.Sum.{sum};
 ghost use Rattle.theory.proofs.Run.{act, eval, Below};
-ghost use Rattle.theory.proofs.Values.{product, evaluator as evaluatorOf, slope};
+ghost use Rattle.theory.proofs.Values.{product, evaluator as evaluator_of, slope};
 ghost use Rattle.theory.proofs.Gf.{gf256};
 ghost use Rattle.corrector.specs.Lanes.{filled, times_plus, lowered, raised, poly, Running};
 ghost use Rattle.code.specs.Code.{unreadable, differing};
@@ -312,7 +314,7 @@ fn locator(xs: [u8; 32], count: usize) -> [u8; 32]
 // The sums s multiplied by the polynomial a: at a root of a, what its quotient makes of the sums.
 fn evaluator(a: [u8; 32], s: [u8; 32], count: usize) -> [u8; 32]
     requires { (count ≤ 31) × Below gf256 (suc count) (poly a) }
-    ensures { (h : ℕ) → poly result h ≡ evaluatorOf gf256 32 (poly a) (poly s) h }
+    ensures { (h : ℕ) → poly result h ≡ evaluator_of gf256 32 (poly a) (poly s) h }
 {
     let mut r: [u8; 32] = [0; 32];
     let mut k: usize = 0;

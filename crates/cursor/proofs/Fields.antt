@@ -1,7 +1,7 @@
 -- Bytes with bits put in: what their bits are, how many they are, that they are bytes, and bits put after bits.
 use mathlib.Core.Path.{◌≡◌, refl, sym, ap, ap₂, ◌∙◌}
 use mathlib.Core.List.{List, [], ◌++◌, append_assoc}
-use Prim.Native.Nat.{ℕ, ◌+◌, ◌-◌, ◌*◌, ◌<◌, ◌≤◌}
+use Prim.Native.Nat.{ℕ, ◌+◌, ◌*◌, ◌<◌, ◌≤◌}
 use native.Mathlib.Nat.{lt_of_lt_of_le, add-zero}
 use lib.Pow.{pow_mono}
 use native.Mathlib.Omega.{arith}

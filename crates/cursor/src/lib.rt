@@ -1,4 +1,6 @@
 // A bit cursor by value: its methods take `self` and return the moved cursor. Bits go most significant first.
+#![tactic(auto)]
+
 ghost use Rattle.std.specs.Prelude.{◌≡◌, ◌++◌, ◌+◌, ◌-◌, ◌*◌, ◌/◌, ◌%◌, ◌^◌, ◌<◌, ◌≤◌, min, length, take, drop};
 ghost use Rattle.basics.specs.Bits.{bits};
 ghost use Rattle.cursor.specs.Cursor.{field, with_bits};

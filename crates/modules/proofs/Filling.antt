@@ -266,8 +266,8 @@ module _ (v : ℕ) (least : 1 ≤ v) (most : v ≤ 10) (cs : List ℕ) where
 
   pub few_steps : (q : ℕ) → q < 2 * v + 8 → q * (2 * side v) + 2 * side v ≤ 3192
   few_steps q h =
-      let most-rows : suc q * (2 * side v) ≤ 28 * 114 = mul-le-mul {n₁ = suc q} {m₁ = 2 * side v} {n₂ = 28} {m₂ = 114} (omega arith) (omega arith) in
-      omega (arith, rw suc-mul at most-rows)
+      let most_rows : suc q * (2 * side v) ≤ 28 * 114 = mul-le-mul {n₁ = suc q} {m₁ = 2 * side v} {n₂ = 28} {m₂ = 114} (omega arith) (omega arith) in
+      omega (arith, rw suc-mul at most_rows)
 
   pub none_yet : (m : List ℕ) → m ≡ kinds v → filling m 0 ≡ put_all (byte_bits cs) (walk (side v)) (0 * (2 * side v)) (filling (kinds v) 0)
   unfolding put_all

@@ -22,7 +22,7 @@ use Rattle.words.specs.Words.{format_word, format_bits, version_word}
 use Rattle.modules.specs.Modules.{Module, Format, Version, Finder, Timing, Alignment, Dark, Data, remains, colour, finder, finder_colour, timing, alignment, copy_at, word_module, module_of, order, walk, step, met, fill, mask_numbers, flips, is_data, format_places, version_places, module_at, symbol}
 use Rattle.modules.specs.Geometry.{PlacedOnce, WordPlaces, Placement, Filled, FormatDrawn, VersionDrawn, module_on}
 use Rattle.modules.proofs.Kept.{not_both, count, nth, rank, nth_lt, nth_passes, rank_nth, rank_lt, nth_rank, length_keep, keep_nth, fill_at, fill_le}
-use Rattle.modules.proofs.Tests.{versions, at_version, both_left, both_right, there, walk_tested, back, step_tested, six_tested, order_tested, is_format, is_version, format_there, version_there, format_tested, version_tested}
+use Rattle.modules.proofs.Tests.{at_version, both_left, both_right, there, walk_tested, back, step_tested, six_tested, order_tested, is_format, is_version, format_there, version_there, format_tested, version_tested}
 
 -- an equation as a test's truth
 pub untruth : (t : Bool) → t ≡ true → T t

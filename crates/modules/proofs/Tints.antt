@@ -19,7 +19,7 @@ use Rattle.basics.proofs.Bits.{byte_bits_le, bit_le}
 use Rattle.basics.proofs.Build.{build_length}
 use Rattle.basics.proofs.Lists.{length_map_up_to, get_d_map_up_to, map_up_to_same, build_up_to}
 use Rattle.basics.proofs.Parts.{lent_front, length_part, the_part}
-use Rattle.basics.proofs.Test.{all, at, cube}
+use Rattle.basics.proofs.Test.{all, cube}
 use Rattle.tables.specs.Tables.{side}
 use Rattle.words.specs.Words.{format_word, format_bits, version_word}
 use Rattle.words.proofs.Bits.{format_bits_lt}

@@ -1,4 +1,6 @@
 // What each module of a version is, the data modules' filling, and the symbol that a mask makes of it.
+#![tactic(auto)]
+
 ghost use Rattle.std.specs.Prelude.{◌≡◌, cond, ◌++◌, ◌+◌, ◌-◌, ◌*◌, ◌%◌, ◌≤◌, ◌<◌, eqb, length, get_or, drop, replicate};
 ghost use Rattle.basics.specs.Bits.{bit_of, byte_bits};
 ghost use Rattle.basics.specs.Build.{build};
@@ -6,7 +8,7 @@ ghost use Rattle.basics.specs.Lists.{AtMost};
 ghost use Rattle.basics.specs.Walk.{walked};
 ghost use Rattle.tables.specs.Tables.{side as side_of, centres, last_version, Lawful};
 ghost use Rattle.modules.specs.Modules.{format_places, version_places, pair_column};
-ghost use Rattle.modules.specs.Kinds.{kinds as kindsOf, row_flips, square_place, timing_place, timing_value, format_place, format_value, version_place, version_value, at_finder, aligned_one, aligned, finders_on, frame_on, laid, finished, tinted, filling, put as putOne, put_all, pair_place};
+ghost use Rattle.modules.specs.Kinds.{kinds as kinds_of, row_flips, square_place, timing_place, timing_value, format_place, format_value, version_place, version_value, at_finder, aligned_one, aligned, finders_on, frame_on, laid, finished, tinted, filling, put as put_one, put_all, pair_place};
 
 // The kind of a data module that is not filled, or filled by 0.
 const DATA: u8 = 2;
@@ -266,7 +268,7 @@ fn frame(out: &mut [u8], v: usize)
 // The kinds of a version's modules, pattern after pattern, over a matrix of its length.
 fn patterns(out: &mut [u8], v: usize)
     requires { (1 ≤ v) × ((v ≤ last_version) × (length out.old ≡ side_of v * side_of v)) }
-    ensures { out.new ≡ kindsOf v }
+    ensures { out.new ≡ kinds_of v }
 {
     clear(out);
     finders(out, tables::side(v));
@@ -280,7 +282,7 @@ fn patterns(out: &mut [u8], v: usize)
 // The kind of each module of a version, no data module filled.
 pub fn kinds(v: usize, out: &mut [u8])
     requires { (1 ≤ v) × ((v ≤ last_version) × (side_of v * side_of v ≤ length out.old)) }
-    ensures { out.new ≡ kindsOf v ++ drop (side_of v * side_of v) out.old }
+    ensures { out.new ≡ kinds_of v ++ drop (side_of v * side_of v) out.old }
 {
     let s = tables::side(v);
     let n = s * s;
@@ -346,7 +348,7 @@ fn filled(codewords: &[u8], n: usize) -> u8
 // A module is met: a data module takes codeword bit n. Answers how many bits are used then.
 fn put(codewords: &[u8], base: &mut [u8], p: usize, n: usize) -> usize
     requires { (p < length base.old) × (n < 4096) }
-    ensures { filling base.new result ≡ putOne (byte_bits codewords.now) (filling base.old n) p }
+    ensures { filling base.new result ≡ put_one (byte_bits codewords.now) (filling base.old n) p }
 {
     if base[p] != DATA {
         return n;

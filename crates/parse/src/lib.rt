@@ -1,9 +1,11 @@
 // Data codewords back to a message, or the first fault.
+#![tactic(auto)]
+
 ghost use Rattle.std.specs.Prelude.{◌≡◌, false, [], ◌∷◌, ◌++◌, ◌+◌, ◌*◌, ◌≤◌, ◌<◌, length, take, drop};
 ghost use Rattle.basics.specs.Bits.{byte_bits};
 ghost use Rattle.tables.specs.Tables.{most_payload, most_list};
-ghost use Rattle.stream.specs.Stream.{character as characterOf};
-ghost use Rattle.parse.specs.Parse.{ends as doesEnd, most_data, message};
+ghost use Rattle.stream.specs.Stream.{character as character_of};
+ghost use Rattle.parse.specs.Parse.{ends as does_end, most_data, message};
 ghost use Rattle.parse.specs.Answer.{heading_number, reading_number, step_number, parsing_number, answer_of, payload_after, list_after};
 ghost use Rattle.parse.specs.Steps.{HeadReads, BodyAsks, BodyReads, StepAsks, StepReads, FillReads};
 ghost use Rattle.parse.specs.Groups.{group_of, group_characters, InGroup};
@@ -109,7 +111,7 @@ pub fn parsing_no(r: Parsing) -> u8
 // The character of a code.
 fn character(x: usize) -> u8
     requires { x < 45 }
-    ensures { result ≡ characterOf x }
+    ensures { result ≡ character_of x }
 {
     ALPHABET[x]
 }
@@ -246,7 +248,7 @@ fn read_body(
 // Fewer than four bits are left, or mode 0.
 fn ends(from: Cursor, codewords: &[u8]) -> bool
     requires { (length codewords.now ≤ 274) × (from.at ≤ 8 * length codewords.now) }
-    ensures { result ≡ doesEnd (drop from.at (byte_bits codewords.now)) }
+    ensures { result ≡ does_end (drop from.at (byte_bits codewords.now)) }
 {
     let at = from.at;
     if 8 * codewords.len() - at < 4 {
@@ -258,7 +260,7 @@ fn ends(from: Cursor, codewords: &[u8]) -> bool
 
 // The head of a segment that stands whole; or refusal 13 or 14.
 fn head_at(from: Cursor, codewords: &[u8], v: usize) -> Heading
-    requires { (length codewords.now ≤ 274) × (doesEnd (drop from.at (byte_bits codewords.now)) ≡ false) }
+    requires { (length codewords.now ≤ 274) × (does_end (drop from.at (byte_bits codewords.now)) ≡ false) }
     ensures { HeadReads codewords.now v from.at result }
 {
     let end = 8 * codewords.len();

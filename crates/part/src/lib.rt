@@ -1,4 +1,6 @@
 // The part of the caller's payload that the k-th segment fills, counted from 0.
+#![tactic(auto)]
+
 ghost use Rattle.std.specs.Prelude.{◌≡◌};
 ghost use Rattle.part.specs.Part.{part_of, span_of};
 

@@ -1,5 +1,7 @@
 // The penalty of a finished symbol: runs and windows of each row and column, squares, the share of dark modules. Every place is looked at in one way, whatever
 // stands there, so that the compiler counts sixteen places at a time and a score takes as long for one symbol as for another of its side.
+#![tactic(auto)]
+
 ghost use Rattle.std.specs.Prelude.{◌≡◌, ◌++◌, ◌+◌, ◌-◌, ◌*◌, ◌<◌, ◌≤◌, length, drop};
 ghost use Rattle.basics.specs.Lists.{same, AtMost};
 ghost use Rattle.penalty.specs.Penalty as paper;
@@ -27,7 +29,7 @@ fn equal(w: [u8; 11], p: [u8; 11]) -> bool
 
 // Whether a window is one pattern or the other.
 fn finder_like(w: [u8; 11]) -> bool
-    ensures { result ≡ paper.finderLike w }
+    ensures { result ≡ paper.finder_like w }
 {
     let table = PATTERNS;
     let first = table[0];

@@ -90,16 +90,16 @@ module _ (v level mask : ℕ) (m payload list : List ℕ) where
           },
         )
 
-    same_payload : (x : Parsed) → parsed.payloadAfter x payload ≡ payload_after (decided v level mask s.differing s.unreadable x) payload
+    same_payload : (x : Parsed) → parsed.payload_after x payload ≡ payload_after (decided v level mask s.differing s.unreadable x) payload
     same_payload (Message a b) = refl
     same_payload (Fault n) = refl
 
-    same_list : (x : Parsed) → parsed.listAfter x list ≡ list_after (decided v level mask s.differing s.unreadable x) list
+    same_list : (x : Parsed) → parsed.list_after x list ≡ list_after (decided v level mask s.differing s.unreadable x) list
     same_list (Message a b) = refl
     same_list (Fault n) = refl
 
     module _ (r : Parsing) (payload' list' : List ℕ)
-        (f : (r ≡ parsed.answer_of (message v held)) × ((payload' ≡ parsed.payloadAfter (message v held) payload) × (list' ≡ parsed.listAfter (message v held) list)))
+        (f : (r ≡ parsed.answer_of (message v held)) × ((payload' ≡ parsed.payload_after (message v held) payload) × (list' ≡ parsed.list_after (message v held) list)))
       where
         telling : (t : Answered) → t ≡ answered_of (decided v level mask s.differing s.unreadable (message v held)) → Finished v level mask m payload list t payload' list'
         telling t e =

@@ -1,11 +1,13 @@
 // What a matrix holds, as it was read: the copies of the words, and the codewords with their flags. A module is 0 light, 1 dark, 2 unreadable.
+#![tactic(auto)]
+
 ghost use Rattle.std.specs.Prelude.{◌≡◌, map, ℕ, ◌+◌, ◌-◌, ◌*◌, ◌^◌, ◌≤◌, ◌<◌, eqb, ltb, length, get_or, take};
 ghost use Rattle.basics.specs.Sums.{one};
 ghost use Rattle.basics.specs.Lists.{up_to, AtMost};
 ghost use Rattle.tables.specs.Tables.{side as side_of, total as total_of, last_version, most_side};
 ghost use Rattle.modules.specs.Modules.{format_places, version_places};
 ghost use Rattle.modules.specs.Kinds.{row_flips};
-ghost use Rattle.scan.specs.Received.{flag as flagOf, codeword, received, codewords as codewordsOf, flags as flags_of};
+ghost use Rattle.scan.specs.Received.{flag as flag_of, codeword, received, codewords as codewords_of, flags as flags_of};
 ghost use Rattle.scan.specs.Scan.{CopyRead, Meets, Ready, Walked, plain, EightRead};
 
 use tables::{MOST_MODULES, MOST_SIDE};
@@ -199,7 +201,7 @@ fn eight(bits: &[u8], at: usize) -> Packed
 // The codewords that modules in their order make, and their flags.
 fn pack(bits: &[u8], words: &mut [u8], flags: &mut [u8])
     requires { AtMost 2 bits.now × ((length words.old ≤ 346) × ((8 * length words.old ≤ length bits.now) × (length flags.old ≡ length words.old))) }
-    ensures { (words.new ≡ map (codeword bits.now) (up_to (length words.old))) × (flags.new ≡ map (flagOf bits.now) (up_to (length words.old))) }
+    ensures { (words.new ≡ map (codeword bits.now) (up_to (length words.old))) × (flags.new ≡ map (flag_of bits.now) (up_to (length words.old))) }
 {
     let total = words.len();
     let mut q: usize = 0;
@@ -216,7 +218,7 @@ pub fn codewords(m: &[u8], v: usize, mask: usize, words: &mut [u8], flags: &mut 
     requires le_v { (1 ≤ v) × ((v ≤ last_version) × (mask < 8)) }
     requires m_len { (length m.now ≡ side_of v * side_of v) × AtMost 2 m.now }
     requires words_len { (length words.old ≡ total_of v) × (length flags.old ≡ total_of v) }
-    ensures { (words.new ≡ codewordsOf v mask m.now) × (flags.new ≡ flags_of v mask m.now) }
+    ensures { (words.new ≡ codewords_of v mask m.now) × (flags.new ≡ flags_of v mask m.now) }
 {
     let mut bits = [0u8; MOST_MODULES];
     let n = gather(m, v, mask, &mut bits);

@@ -1,10 +1,12 @@
 // A message as bits and data codewords: what a message must meet, refusals 2 to 5, and the stream that the writer sends.
+#![tactic(auto)]
+
 ghost use Rattle.std.specs.Prelude.{◌≡◌, true, [], ◌∷◌, ◌++◌, ◌+◌, ◌-◌, ◌*◌, ◌/◌, ◌%◌, ◌≤◌, ◌<◌, min, eqb, length, get_or, take, replicate};
 ghost use Rattle.basics.specs.Bits.{byte_bits};
 ghost use Rattle.basics.specs.Lists.{each};
 ghost use Rattle.tables.specs.Tables.{Lawful, data_count, count_width};
 ghost use Rattle.stream.specs.Put.{RoomForBits, Put, segment_bits};
-ghost use Rattle.stream.specs.Stream.{code_of, known as isKnown, in_mode, lawful_list, counts, lawful_characters, body_width, fits as doesFit, numeric_bits, alphanumeric_bits, body, segments, pads, data_codewords, LawfulMessage};
+ghost use Rattle.stream.specs.Stream.{code_of, known as is_known, in_mode, lawful_list, counts, lawful_characters, body_width, fits as does_fit, numeric_bits, alphanumeric_bits, body, segments, pads, data_codewords, LawfulMessage};
 
 use cursor::Cursor;
 
@@ -55,7 +57,7 @@ pub fn in_mode(mode: usize, c: u8) -> bool
 
 // A mode that the paper has.
 pub fn known(mode: usize) -> bool
-    ensures { result ≡ isKnown mode }
+    ensures { result ≡ is_known mode }
 {
     if mode == 1 {
         return true;
@@ -164,7 +166,7 @@ fn segment_width(v: usize, mode: usize, count: usize) -> usize
 // The message needs no more data bits than the version has at the level. The sum stops before it passes them.
 pub fn fits(v: usize, level: usize, list: &[u16]) -> bool
     requires { Lawful v level }
-    ensures { result ≡ doesFit v level list.now }
+    ensures { result ≡ does_fit v level list.now }
 {
     let most = 8 * tables::data(v, level);
     let mut sum: usize = 0;

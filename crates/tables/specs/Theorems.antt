@@ -25,8 +25,8 @@ pub record TableRules (v level : ℕ) : Type 0 where
   pub blocks : block_count v level ≤ most_blocks
 
 -- a version and a level that has the number
-abbrev pub Reached : (ofSize : (v level : ℕ) → ℕ) (n : ℕ) → Type 0
-Reached ofSize n = (v : ℕ) × ((level : ℕ) × (Lawful v level × (ofSize v level ≡ n)))
+abbrev pub Reached : (of_size : (v level : ℕ) → ℕ) (n : ℕ) → Type 0
+Reached of_size n = (v : ℕ) × ((level : ℕ) × (Lawful v level × (of_size v level ≡ n)))
 
 -- the buffers are no larger than some version and level needs
 pub record LargestRules : Type 0 where

@@ -1,6 +1,8 @@
 // The version table as constants, and what follows from it: sides, block lengths, count widths, alignment centres.
+#![tactic(auto)]
+
 ghost use Rattle.std.specs.Prelude.{◌≡◌, ◌≤◌, ◌<◌, length, get_or};
-ghost use Rattle.tables.specs.Tables.{Lawful, last_version, side as side_of, total as total_of, check_count, block_count, data_count, short_length, short_blocks, block_data, block_start, block_length, room as roomOf, count_width, centres, surplus as surplusOf};
+ghost use Rattle.tables.specs.Tables.{Lawful, last_version, side as side_of, total as total_of, check_count, block_count, data_count, short_length, short_blocks, block_data, block_start, block_length, room as room_of, count_width, centres, surplus as surplus_of};
 ghost use Rattle.tables.specs.Largest.{largest_of};
 ghost use Rattle.tables.specs.Version.{Fixes};
 
@@ -202,7 +204,7 @@ pub fn block_length(v: usize, level: usize, b: usize) -> usize
 // The bound of 2t + e in each block.
 pub fn room(v: usize, level: usize) -> usize
     requires { Lawful v level }
-    ensures { result ≡ roomOf v level }
+    ensures { result ≡ room_of v level }
 {
     checks(v, level)
 }
@@ -247,7 +249,7 @@ pub fn centre(v: usize, k: usize) -> usize
 
 // The data modules that no codeword bit fills.
 pub fn surplus(v: usize) -> usize
-    ensures { result ≡ surplusOf v }
+    ensures { result ≡ surplus_of v }
 {
     if v <= 1 {
         return 0;

@@ -1,4 +1,6 @@
 // The text that is printed, in a lent buffer. Each function writes its text from a place on and answers the next free place.
+#![tactic(auto)]
+
 ghost use Rattle.std.specs.Prelude.{◌≡◌, [], ◌∷◌, ◌++◌, ◌≤◌, ◌<◌, length};
 ghost use Rattle.tables.specs.Tables.{most_payload, most_list};
 ghost use Rattle.part.specs.Part.{Fills};

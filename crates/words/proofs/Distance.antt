@@ -17,14 +17,14 @@ use Rattle.basics.proofs.Xor.{digit, xor_half, xor_low, xor_assoc, xor_left_comm
 use Rattle.words.specs.Words.{Near}
 
 -- a count over k digits is the whole count of a number of k digits, and it computes on numerals
-pub ones_in : (k n : ℕ) → n < 2 ^ k → ones n ≡ ones_in k n
+pub ones_in_lem : (k n : ℕ) → n < 2 ^ k → ones n ≡ ones_in k n
 unfolding ones_in ones
-ones_in zero n h = rw (lt-one h)
-ones_in (suc k) n h = ones_step n ∙ ap (λ (x : ℕ). n % 2 + x) (ones_in k (n / 2) (shr_lt k 1 (rw add-one h)))
+ones_in_lem zero n h = rw (lt-one h)
+ones_in_lem (suc k) n h = ones_step n ∙ ap (λ (x : ℕ). n % 2 + x) (ones_in_lem k (n / 2) (shr_lt k 1 (rw add-one h)))
 
 -- so for what is left of a number under a mask of k digits
 pub ones_under : (k a m : ℕ) → m < 2 ^ k → ones (bit_and a m) ≡ ones_in k (bit_and a m)
-ones_under k a m h = ones_in k (bit_and a m) (lt_of_le_of_lt (and_le_r a m) h)
+ones_under k a m h = ones_in_lem k (bit_and a m) (lt_of_le_of_lt (and_le_r a m) h)
 
 pub ones_under_le : (k a m : ℕ) → m < 2 ^ k → ones (bit_and a m) ≤ k
 ones_under_le k a m h = ones-le k (bit_and a m) (lt_of_le_of_lt (and_le_r a m) h)
@@ -64,9 +64,9 @@ word_only k n f t copy readable x y hx hy p q =
 pub is_near : (k copy readable word d : ℕ) → readable < 2 ^ k → d ≡ ones_in k (bit_and (bit_xor copy word) readable) → 2 * d + (k - ones readable) ≤ 6
     → Near k copy readable word
 unfolding Near
-is_near k copy readable word d h e l = omega (arith, ones_in k readable h)
+is_near k copy readable word d h e l = omega (arith, ones_in_lem k readable h)
 
 pub not_near : (k copy readable word d : ℕ) → readable < 2 ^ k → d ≡ ones_in k (bit_and (bit_xor copy word) readable) → 6 < 2 * d + (k - ones readable)
     → Near k copy readable word → ⊥
 unfolding Near
-not_near k copy readable word d h e l n = omega (arith, ones_in k readable h)
+not_near k copy readable word d h e l n = omega (arith, ones_in_lem k readable h)

@@ -1,7 +1,7 @@
 -- The answer of `write`, refused or drawn, from what its steps gave.
 use mathlib.Core.Path.{◌≡◌, refl, ◌∙◌}
 use mathlib.Core.Bool.{Bool, true, false}
-use mathlib.Core.Logic.{◌≢◌, inl, inr}
+use mathlib.Core.Logic.{◌≢◌, inr}
 use mathlib.Core.List.{List}
 use Prim.Native.Nat.{ℕ, zero, suc, ◌*◌, ◌≤◌, ◌<◌}
 use native.Mathlib.Omega.{arith}
@@ -14,7 +14,7 @@ use Rattle.stream.specs.Stream.{LawfulMessage, lawful_list, counts, lawful_chara
 use Rattle.modules.proofs.Geometry.{symbol_length}
 use Rattle.writer.specs.declared.Checked.{Checked}
 use Rattle.writer.specs.declared.Drawing.TheVariants as answers
-use Rattle.writer.specs.Writer.{Request, Drawn, Refused, in_range, unless, taken, refusal, chosen, codewords, draw_at, refused_or, draw}
+use Rattle.writer.specs.Writer.{Request, Refused, in_range, unless, taken, refusal, chosen, codewords, draw_at, draw}
 use Rattle.writer.specs.Answer.{Checks, DrawsAt, Writes}
 use Rattle.writer.proofs.Fit.{fit_rule}
 use Rattle.writer.proofs.Drawn.{sound, taken_lawful}

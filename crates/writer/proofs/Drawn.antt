@@ -9,7 +9,7 @@ use borrow.Author.Tests.{ne_eqb}
 use lib.ListN.{get_or}
 use Rattle.basics.specs.Lists.{up_to}
 use Rattle.basics.proofs.Lists.{length_map_up_to, get_d_map_up_to}
-use Rattle.tables.specs.Tables.{side, last_version, Lawful}
+use Rattle.tables.specs.Tables.{side, Lawful}
 use Rattle.modules.specs.Modules.{symbol}
 use Rattle.modules.proofs.Geometry.{symbol_length, symbol_le}
 use Rattle.penalty.specs.Penalty.{score, least_place}

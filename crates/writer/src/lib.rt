@@ -1,4 +1,6 @@
 // The writer: the symbol that a request gets, or the number of its refusal.
+#![tactic(auto)]
+
 ghost use Rattle.std.specs.Prelude.{◌≡◌, ◌+◌, ◌*◌, ◌<◌, ◌≤◌, length};
 ghost use Rattle.tables.specs.Tables.{last_version, most_codewords, total, Lawful, side as side_of};
 ghost use Rattle.stream.specs.Stream.{LawfulMessage, data_codewords};

@@ -15,12 +15,12 @@ turn product s zero p t h hp hs e f i = absurd (not-suc-le-zero h)
 turn product s (suc k) p t h hp hs e f i =
     rw (sub-one (suc k), f, e) (mul_assoc product (mul_n s s) (even_powers k (mul_n s s)) hp (mul_lt s s hs) ∙ i)
 
-pub loop_k_init : goal.loop-k-init
+pub loop-k-init : goal.loop-k-init
 unfolding inv_n
-loop_k_init c = (search rules, search rules, one_mul _ (inv_lt c.args.a (search rules)))
+loop-k-init c = (search rules, search rules, one_mul _ (inv_lt c.args.a (search rules)))
 
-pub loop_k_preserved : goal.loop-k-preserved
-loop_k_preserved c =
+pub loop-k-preserved : goal.loop-k-preserved
+loop-k-preserved c =
     let l = c.loop-k in
     (search rules, search rules, turn l.product l.s l.k _ _ (search rules) l.invariant.0 l.invariant.1 c.mul-s.ensures c.mul-product.ensures l.invariant.2)
 

@@ -1,0 +1,20 @@
+-- `blocks::deal_block` meets its contract: the data and then the checks are dealt, which deals the block.
+-- The second call finds the output as long as the first did.
+use native.Mathlib.Omega.{arith}
+use Rattle.tables.specs.Tables.{block_length}
+use Rattle.blocks.specs.Blocks.{sent_place}
+use Rattle.blocks.proofs.Walks.{dealt_both}
+use Rattle.blocks.proofs.deal_block.Goals as goal
+
+pub deal-requires-clause-lawful : goal.deal-requires-clause-lawful
+unfolding block_length
+deal-requires-clause-lawful c = (c.requires.lawful.0, (c.requires.lawful.1.0, omega (arith, c.requires.held_len.0)))
+
+pub deal-requires-2-clause-lawful : goal.deal-requires-2-clause-lawful
+unfolding block_length
+deal-requires-2-clause-lawful c = (c.requires.lawful.0, (c.requires.lawful.1.0, omega (arith, c.requires.held_len.0, c.requires.held_len.1)))
+
+pub returns : goal.returns
+returns c =
+    let a = c.args in
+    dealt_both (sent_place a.v a.level a.b) a.held.now a.made.now a.out.now _ _ c.deal.ensures c.deal-2.ensures

@@ -1,0 +1,7 @@
+-- `blocks::sizes_of` meets its contract: each number is the table's.
+use Rattle.blocks.specs.Sizes.{sizes_of}
+use Rattle.blocks.proofs.sizes_of.Goals as goal
+
+pub returns : goal.returns
+unfolding sizes_of
+returns c = rw (c.data-held.ensures, c.blocks-blocks.ensures, c.short_length-short.ensures, c.short_blocks-few.ensures)

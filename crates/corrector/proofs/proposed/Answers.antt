@@ -1,0 +1,48 @@
+-- `corrector::proposed` meets its contract.
+use native.Mathlib.Numerals.{add-one}
+use native.Mathlib.Omega.{arith}
+use mir.Val.{Fits}
+use mir.Syntax.{w8}
+use lib.ListN.{get_or}
+use mathlib.Core.Path.{◌≡◌}
+use mathlib.Core.List.{List}
+use Prim.Native.Nat.{ℕ, ◌+◌, ◌-◌}
+use Rattle.code.proofs.Bridge.{Bytes}
+use Rattle.corrector.specs.declared.State.{State}
+use Rattle.corrector.specs.declared.Listed.{Listed}
+use Rattle.corrector.specs.Correct.{Asked}
+use Rattle.corrector.specs.Lanes.{Running}
+use Rattle.corrector.specs.Places.{Erased, Found}
+use Rattle.corrector.proofs.Finding.{Traced, counted, listed_place, right}
+use borrow.Author.Rules.{rules}
+use Rattle.corrector.proofs.proposed.Goals as goal
+
+-- what is known once the suspected places are listed
+traced :
+    (st : State) (found : Listed) {w flags s left : List ℕ} {n e : ℕ}
+    → Asked w flags s n e → Bytes w → Erased s flags left → Running left st.i st.l st.a st.b st.e → st.i + st.l ≡ n - e → Found flags st.a 0 found.at found.xs found.count
+    → Traced w flags s left st.a st.b n e st.i st.l st.e found.at found.xs found.count
+traced st found asked bytes folded run whole listed = record { asked = asked; bytes = bytes; folded = folded; run = run; whole = whole; found = listed }
+
+pub suspected-found-requires : goal.suspected-found-requires
+suspected-found-requires c = (omega arith, omega arith, rw add-one c.run-st.ensures.0.monic.below)
+
+pub returns-then-n-count : goal.returns-then-n-count
+returns-then-n-count c = let k =
+    traced c.run-st.result c.suspected-found.result c.requires (λ j l. let f : Fits w8 (get_or c.args.word.now j 0) = search rules in omega (arith, f))
+    c.erased-left.ensures c.run-st.ensures.0 c.run-st.ensures.1 c.suspected-found.ensures in
+    λ room c' t e small st. absurd (omega (arith, counted k small st))
+
+pub mended-requires : goal.mended-requires
+mended-requires c = let k =
+    traced c.run-st.result c.suspected-found.result c.requires (λ j l. let f : Fits w8 (get_or c.args.word.now j 0) = search rules in omega (arith, f))
+    c.erased-left.ensures c.run-st.ensures.0 c.run-st.ensures.1 c.suspected-found.ensures in
+    (omega arith, omega arith, λ h l. omega (arith, listed_place k (omega arith) h l))
+
+pub returns : goal.returns
+returns c = let k =
+    traced c.run-st.result c.suspected-found.result c.requires (λ j l. let f : Fits w8 (get_or c.args.word.now j 0) = search rules in omega (arith, f))
+    c.erased-left.ensures c.run-st.ensures.0 c.run-st.ensures.1 c.suspected-found.ensures in
+    let v = c.magnitudes-wrong.result in
+    let r = c.mended.result in
+    λ room c' t e small st. right k small st v r c.magnitudes-wrong.ensures c.mended.ensures (λ h. let f : Fits w8 (get_or r h 0) = search rules in omega (arith, f))

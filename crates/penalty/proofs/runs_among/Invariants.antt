@@ -1,0 +1,11 @@
+-- `penalty::runs_among` meets its contract. The invariant: the count is that of the places passed.
+use mathlib.Core.Path.{◌≡◌}
+use Prim.Native.Nat.{◌-◌, ◌≤◌}
+use Rattle.penalty.specs.Lines.{alike_from}
+use Rattle.penalty.proofs.runs_among.Given as goal
+
+abbrev pub invariant-loop-i : goal.invariant-loop-i
+invariant-loop-i l = (l.i ≤ l.n) × ((l.count ≤ l.i) × (l.count ≡ alike_from l.m l.start l.stride l.k l.i))
+
+abbrev pub decreases-loop-i : goal.decreases-loop-i
+decreases-loop-i l = l.n - l.i

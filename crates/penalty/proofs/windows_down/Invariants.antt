@@ -1,0 +1,11 @@
+-- `penalty::windows_down` meets its contract. The invariant: the count is that of the places passed.
+use mathlib.Core.Path.{◌≡◌}
+use Prim.Native.Nat.{◌+◌, ◌*◌, ◌-◌, ◌≤◌}
+use Rattle.penalty.specs.Lines.{windows_from}
+use Rattle.penalty.proofs.windows_down.Given as goal
+
+abbrev pub invariant-loop-left : goal.invariant-loop-left
+invariant-loop-left l = (l.at + l.left ≡ (l.s - 10) * l.s) × ((l.count ≤ l.at) × (l.count ≡ windows_from l.m 0 l.s l.at))
+
+abbrev pub decreases-loop-left : goal.decreases-loop-left
+decreases-loop-left l = l.left

@@ -1,0 +1,12 @@
+-- `tables::blocks` meets its contract: the definition's table has an empty row in front.
+use mathlib.Core.Path.{ap, ◌∙◌}
+use mathlib.Core.List.{List, []}
+use Prim.Native.Nat.{ℕ}
+use lib.ListN.{get_or}
+use Rattle.tables.specs.Tables.{block_rows, block_count}
+use Rattle.tables.proofs.Rules.{past_front}
+use Rattle.tables.proofs.blocks.Goals as goal
+
+pub returns : goal.returns
+unfolding block_rows block_count
+returns c = c.wide.ensures ∙ ap (λ (r : List ℕ). get_or r c.args.level 0) (past_front [] block_rows c.args.v c.requires.least)
