@@ -15,14 +15,14 @@ use std::os::fd::AsRawFd;
 use std::rt::Files;
 
 // So many bytes of a file, or it cannot be opened or read.
-#[derive(Drop)]
+#[derive(Clone, Copy)]
 pub enum Loaded {
     Bytes(usize),
     Unreadable,
 }
 
 // What follows a read: the file goes on behind so many bytes, it ends there (or the buffer does), or it cannot be read.
-#[derive(Drop)]
+#[derive(Clone, Copy)]
 pub enum Next {
     Behind(usize),
     Ended(usize),
