@@ -12,7 +12,7 @@ use Rattle.parse.proofs.Numbers.{fault_numbers}
 use Rattle.parse.proofs.Refused.{stream_refused}
 use Rattle.blocks.specs.Blocks.{data_of}
 use Rattle.scan.specs.Received.{received}
-use Rattle.reader.specs.Reader.{Answer, Refused, decided, First, Reads, Versioned, Formatted, AllStand, Small, NoVersion, Above, OtherVersion, NoFormat, TwoFormats, NoCodeword, BlockStands}
+use Rattle.reader.specs.Reader.{Refused, decided, First, Reads, Versioned, Formatted, AllStand, Small, NoVersion, OtherVersion, NoFormat, TwoFormats, NoCodeword, BlockStands}
 use Rattle.reader.specs.Theorems.{ReaderNumbers, ReadsRefused, PastSize, PastVersions, PastFormats, StreamFaulty}
 use Rattle.reader.proofs.Passing.{then_sized, then_plain, then_named}
 

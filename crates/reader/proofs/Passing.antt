@@ -1,5 +1,4 @@
 -- A step that was passed leaves its fault out, and the steps that were passed leave the answer to the later ones.
-use mathlib.Core.Path.{◌≡◌}
 use mathlib.Core.Logic.{inl, inr}
 use mathlib.Core.List.{List}
 use Prim.Native.Nat.{ℕ, suc}

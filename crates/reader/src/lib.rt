@@ -1,4 +1,6 @@
 // The answer that a matrix gets: a straight line of steps, each an enum; the first fault leaves.
+#![tactic(auto)]
+
 ghost use Rattle.std.specs.Prelude.{◌≡◌, ◌⊎◌, ◌*◌, ◌≤◌, ◌<◌, length};
 ghost use Rattle.basics.specs.Lists.{AtMost};
 ghost use Rattle.tables.specs.Tables.{Lawful, side, total, data_count, last_version, most_payload, most_list};

@@ -6,10 +6,16 @@ use Rattle.blocks.specs.Blocks.{sent_place}
 use Rattle.blocks.proofs.Walks.{dealt_both}
 use Rattle.blocks.proofs.deal_block.Goals as goal
 
+-- The data is the front of the block,
+-- with which it begins.
 pub deal-requires-clause-lawful : goal.deal-requires-clause-lawful
 unfolding block_length
 deal-requires-clause-lawful c = (c.requires.lawful.0, (c.requires.lawful.1.0, omega (arith, c.requires.held_len.0)))
 
+-- The checks are the rest of it:
+-- they begin where the data ends,
+-- are as many as each block has,
+-- and end with the block.
 pub deal-requires-2-clause-lawful : goal.deal-requires-2-clause-lawful
 unfolding block_length
 deal-requires-2-clause-lawful c = (c.requires.lawful.0, (c.requires.lawful.1.0, omega (arith, c.requires.held_len.0, c.requires.held_len.1)))
