@@ -1,4 +1,6 @@
 // The entries for the panel's firmware, called from C as include/kqs.h says: numbers and slices in, a struct by value out. Each answers every input.
+#![tactic(auto)]
+
 ghost use Rattle.std.specs.Prelude.{◌≡◌, ◌<◌, ◌^◌, length};
 ghost use Rattle.writer.specs.Writer.{request};
 ghost use Rattle.part.specs.Part.{span_of};

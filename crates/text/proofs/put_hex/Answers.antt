@@ -1,11 +1,11 @@
 -- `text::put_hex` meets its contract: before turn k the first k bytes are written in hex and the others are left.
 use mathlib.Core.Path.{ap}
-use mathlib.Core.List.{List, ◌∷◌}
-use Prim.Native.Nat.{ℕ, ◌+◌, ◌/◌, ◌%◌}
+use mathlib.Core.List.{[], ◌∷◌}
+use Prim.Native.Nat.{◌/◌}
 use native.Mathlib.Omega.{arith}
-use lib.ListN.{get_or, drop}
+use lib.ListN.{get_or}
 use Rattle.text.specs.Text.{hex, hex_digit}
-use Rattle.text.proofs.Pasting.{Progress, start as start_Writing, said, room, more, done}
+use Rattle.text.proofs.Pasting.{start as start_Writing, said, room, more, done}
 use Rattle.text.proofs.Turns.{hex_turn, none_left}
 use Rattle.text.proofs.put_hex.Goals as goal
 
@@ -14,44 +14,20 @@ loop-k-init c = (omega arith, start_Writing _ _ _)
 
 pub put_byte-half-requires : goal.put_byte-half-requires
 put_byte-half-requires c =
-    let byte : ℕ =
-    get_or c.args.bytes.now c.loop-k.k 0 in
-    let later : List ℕ =
-    hex (drop (c.loop-k.k + 1) c.args.bytes.now) in
-    let Left : (after : List ℕ) (next : ℕ) (rest : List ℕ) → Type 0 =
-    Progress c.args.out.now c.args.at (hex c.args.bytes.now) in
-    let begun : Left c.loop-k.out c.loop-k.next (hex_digit (byte / 16) ∷ hex_digit (byte % 16) ∷ later) =
-    said (hex_turn c.args.bytes.now c.loop-k.k (omega arith)) c.loop-k.invariant.1 in
+    let begun = said (hex_turn c.args.bytes.now c.loop-k.k (omega arith)) c.loop-k.invariant.1 in
     rw c.hex_digit.ensures (room _ _ c.requires begun)
 
 pub put_byte-next-requires : goal.put_byte-next-requires
 put_byte-next-requires c =
-    let byte : ℕ =
-    get_or c.args.bytes.now c.loop-k.k 0 in
-    let later : List ℕ =
-    hex (drop (c.loop-k.k + 1) c.args.bytes.now) in
-    let Left : (after : List ℕ) (next : ℕ) (rest : List ℕ) → Type 0 =
-    Progress c.args.out.now c.args.at (hex c.args.bytes.now) in
-    let begun : Left c.loop-k.out c.loop-k.next (hex_digit (byte / 16) ∷ hex_digit (byte % 16) ∷ later) =
-    said (hex_turn c.args.bytes.now c.loop-k.k (omega arith)) c.loop-k.invariant.1 in
-    let high : Left c.put_byte-half.new.out c.put_byte-half.result (hex_digit (byte % 16) ∷ later) =
-    more _ _ begun (rw c.hex_digit.ensures at c.put_byte-half.ensures) in
+    let begun = said (hex_turn c.args.bytes.now c.loop-k.k (omega arith)) c.loop-k.invariant.1 in
+    let high = more (hex_digit (get_or c.args.bytes.now c.loop-k.k 0 / 16) ∷ []) _ begun (rw c.hex_digit.ensures at c.put_byte-half.ensures) in
     rw c.hex_digit-in-loop-k.ensures (room _ _ c.requires high)
 
 pub loop-k-preserved : goal.loop-k-preserved
 loop-k-preserved c =
-    let byte : ℕ =
-    get_or c.args.bytes.now c.loop-k.k 0 in
-    let later : List ℕ =
-    hex (drop (c.loop-k.k + 1) c.args.bytes.now) in
-    let Left : (after : List ℕ) (next : ℕ) (rest : List ℕ) → Type 0 =
-    Progress c.args.out.now c.args.at (hex c.args.bytes.now) in
-    let begun : Left c.loop-k.out c.loop-k.next (hex_digit (byte / 16) ∷ hex_digit (byte % 16) ∷ later) =
-    said (hex_turn c.args.bytes.now c.loop-k.k (omega arith)) c.loop-k.invariant.1 in
-    let high : Left c.put_byte-half.new.out c.put_byte-half.result (hex_digit (byte % 16) ∷ later) =
-    more _ _ begun (rw c.hex_digit.ensures at c.put_byte-half.ensures) in
-    let low = rw c.hex_digit-in-loop-k.ensures at c.put_byte-next.ensures in
-    (omega arith, more _ _ high low)
+    let begun = said (hex_turn c.args.bytes.now c.loop-k.k (omega arith)) c.loop-k.invariant.1 in
+    let high = more (hex_digit (get_or c.args.bytes.now c.loop-k.k 0 / 16) ∷ []) _ begun (rw c.hex_digit.ensures at c.put_byte-half.ensures) in
+    (omega arith, more _ _ high (rw c.hex_digit-in-loop-k.ensures at c.put_byte-next.ensures))
 
 pub returns : goal.returns
 unfolding hex
