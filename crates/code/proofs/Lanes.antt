@@ -1,15 +1,14 @@
 -- Loops over a fixed number of coefficients.
---     fill_none, fill_more      a buffer of zeros that is filled from the front
---     copied_more, copied_all   a part that is filled with the front of a list
---     build-same                two lists that are built of equal entries
-use mathlib.Core.Path.{◌≡◌, refl, sym, ap, ap₂, ◌∙◌}
+--     fill_none, fill_more, fill_all   a buffer of zeros that is filled from the front
+--     build_same                       two lists that are built of equal entries
+use mathlib.Core.Path.{◌≡◌, refl, sym, ap₂, ◌∙◌}
 use mathlib.Core.List.{List, [], ◌∷◌, ◌++◌, append-nil}
 use Prim.Native.Nat.{ℕ, zero, suc, ◌+◌, ◌-◌, ◌<◌}
 use native.Mathlib.Nat.{sub-zero}
 use native.Mathlib.Numerals.{add-one}
 use native.Mathlib.Omega.{arith}
-use lib.ListN.{length, take, get_or, set, replicate}
-use lib.Seq.{set_at, append_snoc, take-suc, take-suc-set, take_all}
+use lib.ListN.{set, replicate}
+use lib.Seq.{set_at, append_snoc}
 use Rattle.basics.specs.Build.{build}
 use Rattle.basics.proofs.Build.{build_length}
 
@@ -31,13 +30,6 @@ unfolding fill build
 fill_more f m k v l e h q =
     let more : m - k ≡ suc (m - (k + 1)) = omega arith in
     rw (e, more, q, add-one) (set_at (build f k) 0 (replicate (m - suc k) 0) (f k) k (build_length f k) ∙ sym (append_snoc (build f k) (f k) (replicate (m - suc k) 0)))
-
--- the first j entries of out are s's
-pub copied_more : (s out : List ℕ) (j : ℕ) → take j out ≡ take j s → j < length s → j < length out → take (j + 1) (set out j (get_or s j 0)) ≡ take (j + 1) s
-copied_more s out j t hs ho = rw (add-one, take-suc-set, take-suc s j 0, t)
-
-pub copied_all : (s out : List ℕ) (j n : ℕ) → take j out ≡ take j s → length out ≡ n → j ≡ n → out ≡ take n s
-copied_all s out j n t h e = sym (take_all j out (omega arith)) ∙ t ∙ ap (λ (m : ℕ). take m s) e
 
 pub fill_all : (f : ℕ → ℕ) (m k : ℕ) (l : List ℕ) → l ≡ fill f m k → k ≡ m → l ≡ build f m
 unfolding fill

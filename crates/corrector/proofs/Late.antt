@@ -50,18 +50,6 @@ late_lt (suc k) (suc h) f b = late_lt k h f b
 pub lowered_start : (a : List ℕ) (i : ℕ) → Lowering a i 0 (replicate 32 0)
 lowered_start a i = record { long = refl; front = λ x h. absurd (omega arith); back = λ x h. zeros_at 32 x }
 
-pub lowered_turn : (a r : List ℕ) (i k : ℕ) → i + k < 32 → Lowering a i k r → Lowering a i (k + 1) (set r k (get_or a (i + k) 0))
-lowered_turn a r i k l c = record {
-  long = length-set r k _ ∙ c.long;
-  front =
-      λ x h.
-      by_cases
-      (ℕ_discrete x k)
-      (λ (p : x ≡ k). rw p (get_or-set_same r k _ 0 (omega (arith, c.long))))
-      (λ p. get_or-set_other r k x _ 0 p ∙ c.front x (omega arith));
-  back = λ x h. get_or-set_other r k x _ 0 (omega arith) ∙ c.back x (omega arith);
-}
-
 pub lowered_all : (a r : List ℕ) (i k : ℕ) → length a ≡ 32 → 32 ≤ i + k → Lowering a i k r → r ≡ lowered a i
 unfolding lowered
 lowered_all a r i k la l c =

@@ -4,7 +4,6 @@ pub mod Running
 pub mod Erasing
 pub mod Listing
 pub mod Turns
-pub mod Mending
 pub mod Picked
 pub mod Finding
 pub mod Counting

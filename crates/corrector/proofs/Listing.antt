@@ -41,16 +41,6 @@ module _ {flags a : List ℕ} {j : ℕ} {at xs : List ℕ} {count : ℕ} (f : Fo
     located = f.located;
   }
 
-  pub found_full : count ≡ 31 → Found flags a j at xs count
-  found_full e = record {
-    small = f.small;
-    long = f.long;
-    wide = f.wide;
-    listed = λ h. absurd (omega arith);
-    many = f.many;
-    located = f.located;
-  }
-
   pub found_more : (x : ℕ) → suspect flags a j ≡ true → count ≢ 31 → x ≡ pow_n (length flags - suc j) → Found flags a j (set at count j) (set xs count x) (count + 1)
   found_more x e n p = record {
     small = omega (arith, f.small);

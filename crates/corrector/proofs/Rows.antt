@@ -6,6 +6,8 @@ use Prim.Native.Nat.{ℕ, zero, suc, ◌+◌, ◌≤◌, ◌<◌}
 use native.Mathlib.Numerals.{add-one, one-add}
 use native.Mathlib.Decide.{dec_lt}
 use native.Mathlib.Omega.{arith}
+use mir.Val.{Fits}
+use mir.Syntax.{w8}
 use lib.Bits.{bit_xor, xor_lt}
 use lib.ListN.{length, get_or, replicate, get_or-eq_default}
 use Rattle.basics.specs.Build.{build}
@@ -26,6 +28,10 @@ open gf256 use {◌⊕◌, ◌⊗◌, 𝟘, 𝟙, inv}
 pub record Row (a : List ℕ) : Type 0 where
   pub long : length a ≡ 32
   pub bytes : (k : ℕ) → get_or a k 0 < 256
+
+-- as a function's row has it: 32 values of eight bits
+pub row : (a : List ℕ) → length a ≡ 32 → ((k : ℕ) → Fits w8 (get_or a k 0)) → Row a
+row a long fits = record { long = long; bytes = λ k. let f : Fits w8 (get_or a k 0) = fits k in omega (arith, f) }
 
 pub poly_past : (a : List ℕ) → length a ≡ 32 → (k : ℕ) → 32 ≤ k → poly a k ≡ 𝟘
 poly_past a l k h = ap elt (get_or-eq_default a 0 (omega arith))

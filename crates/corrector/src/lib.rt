@@ -502,14 +502,14 @@ fn first(s: [u8; 32]) -> usize
 }
 
 // How many codewords of a block differ from its codeword, and how many are unreadable.
-#[derive(Drop)]
+#[derive(Clone, Copy)]
 pub struct Counts {
     pub differing: usize,
     pub unreadable: usize,
 }
 
 // What a block stands for.
-#[derive(Drop)]
+#[derive(Clone, Copy)]
 pub enum Correction {
     // a codeword, with these counts
     Stood(Counts),

@@ -12,7 +12,7 @@ use writer::Drawing;
 
 // What `kqs_write` answers: a refusal has zeros behind its number, and a symbol has 0 in front.
 #[repr(C)]
-#[derive(Drop)]
+#[derive(Clone, Copy)]
 pub struct KqsDrawn {
     pub refusal: u32,
     pub version: u32,
@@ -22,7 +22,7 @@ pub struct KqsDrawn {
 
 // What `kqs_read` answers, in the same way.
 #[repr(C)]
-#[derive(Drop)]
+#[derive(Clone, Copy)]
 pub struct KqsReading {
     pub refusal: u32,
     pub version: u32,

@@ -18,7 +18,7 @@ module _ (codewords : List ℕ) (v : ℕ) (bytes pairs : List ℕ) where
       → (Faulty k ≡ answer_of (message v codewords)) × ((payload ≡ payload_after (message v codewords) payload) × (list ≡ list_after (message v codewords) list))
   answers_fault n k payload list f e = rw (f, e) (refl, (refl, refl))
 
-  module _ (s : Sizes) (f : FillReads codewords v bytes pairs (Whole s)) (b : length bytes ≡ most_payload) (p : length pairs ≡ most_list) where
+  module _ (s : Sizes) (f : FillReads codewords v bytes pairs (Whole s)) (b : most_payload ≤ length bytes) (p : most_list ≤ length pairs) where
     pub bytes_inside : s.payload ≤ length bytes
     bytes_inside = omega (arith, f.1)
 

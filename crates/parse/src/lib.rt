@@ -16,7 +16,7 @@ use cursor::Cursor;
 const ALPHABET: [u8; 45] = *b"0123456789ABCDEFGHIJKLMNOPQRSTUVWXYZ $%*+-./:";
 
 // The next group of a body: how many characters, in how many bits, and the most that it may be.
-#[derive(Drop)]
+#[derive(Clone, Copy)]
 pub struct Group {
     pub size: usize,
     pub width: usize,
@@ -24,48 +24,48 @@ pub struct Group {
 }
 
 // A segment's head: its mode, its count, and the cursor at its body; or a refusal.
-#[derive(Drop)]
+#[derive(Clone, Copy)]
 pub struct Head {
     pub mode: usize,
     pub count: usize,
     pub body: Cursor,
 }
 
-#[derive(Drop)]
+#[derive(Clone, Copy)]
 pub enum Heading {
     Found(Head),
     Refused(u8),
 }
 
 // A body that was read, with the cursor past it; or a group is out of range.
-#[derive(Drop)]
+#[derive(Clone, Copy)]
 pub enum Reading {
     Past(Cursor),
     OutOfRange,
 }
 
 // How far the reading is: the cursor, the characters and the segments before it.
-#[derive(Drop)]
+#[derive(Clone, Copy)]
 pub struct Progress {
     pub cursor: Cursor,
     pub used: usize,
     pub segments: usize,
 }
 
-#[derive(Drop)]
+#[derive(Clone, Copy)]
 pub enum Step {
     Next(Progress),
     NoStep(u8),
 }
 
 // What the codewords hold: the length of the payload and the number of segments; or the first fault.
-#[derive(Drop)]
+#[derive(Clone, Copy)]
 pub struct Sizes {
     pub payload: usize,
     pub segments: usize,
 }
 
-#[derive(Drop)]
+#[derive(Clone, Copy)]
 pub enum Parsing {
     Whole(Sizes),
     Faulty(u8),

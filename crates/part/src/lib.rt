@@ -6,7 +6,7 @@ ghost use Rattle.part.specs.Part.{part_of, span_of};
 
 // A part of a payload: its first byte's place and its length.
 #[repr(C)]
-#[derive(Drop)]
+#[derive(Clone, Copy)]
 pub struct Span {
     pub start: usize,
     pub len: usize,

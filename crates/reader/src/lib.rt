@@ -24,7 +24,7 @@ fn check_side(m: &[u8]) -> Fixed
 }
 
 // Every module is light, dark or unreadable; or one is above 2.
-#[derive(Drop)]
+#[derive(Clone, Copy)]
 pub enum Checked {
     Fine,
     TooHigh,
@@ -58,13 +58,13 @@ fn check_modules(m: &[u8]) -> Checked
 }
 
 // Over all blocks, the readable codewords that differed and the unreadable ones.
-#[derive(Drop)]
+#[derive(Clone, Copy)]
 pub struct Sums {
     pub differing: usize,
     pub unreadable: usize,
 }
 
-#[derive(Drop)]
+#[derive(Clone, Copy)]
 pub enum Mended {
     Within(Sums),
     Beyond,
@@ -100,7 +100,7 @@ fn mend_blocks(words: &mut [u8], flags: &[u8], v: usize, level: usize) -> Mended
 }
 
 // Whether a version copy stands for another version.
-#[derive(Drop)]
+#[derive(Clone, Copy)]
 pub enum Copies {
     Agreeing,
     Other,
@@ -156,14 +156,14 @@ fn check_versions(m: &[u8], v: usize) -> Copies
 }
 
 // A level and a mask.
-#[derive(Drop)]
+#[derive(Clone, Copy)]
 pub struct Meta {
     pub level: usize,
     pub mask: usize,
 }
 
 // What the format copies stand for, or the number of the refusal.
-#[derive(Drop)]
+#[derive(Clone, Copy)]
 pub enum Format {
     Word(Meta),
     NoWord(u8),
@@ -275,7 +275,7 @@ fn mend(m: &[u8], v: usize, level: usize, mask: usize, data: &mut [u8]) -> Mende
 }
 
 // Version, level and mask; the lengths of what was read; the sums over all blocks.
-#[derive(Drop)]
+#[derive(Clone, Copy)]
 pub struct Reading {
     pub version: usize,
     pub level: usize,
@@ -286,7 +286,7 @@ pub struct Reading {
     pub unreadable: usize,
 }
 
-#[derive(Drop)]
+#[derive(Clone, Copy)]
 pub enum Answered {
     Read(Reading),
     Refused(u8),

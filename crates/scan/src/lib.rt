@@ -24,21 +24,21 @@ const FORMAT_BITS: usize = 15;
 const VERSION_BITS: usize = 18;
 
 // A copy of a word, and which of its bits could be read.
-#[derive(Drop)]
+#[derive(Clone, Copy)]
 pub struct Copy {
     pub bits: u32,
     pub readable: u32,
 }
 
 // A place of the matrix.
-#[derive(Drop)]
+#[derive(Clone, Copy)]
 pub struct At {
     pub row: usize,
     pub column: usize,
 }
 
 // A codeword, and 1 where it could not be read.
-#[derive(Drop)]
+#[derive(Clone, Copy)]
 pub struct Packed {
     pub value: u8,
     pub flag: u8,

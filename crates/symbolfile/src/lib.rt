@@ -1,4 +1,6 @@
 // The text that the program prints for a symbol file.
+#![tactic(auto)]
+
 ghost use Rattle.std.specs.Prelude.{◌≡◌, ◌≤◌, length};
 ghost use Rattle.text.specs.Text.{most_text};
 ghost use Rattle.symbolfile.specs.SymbolFile.{whole, Closed, Holds, SymbolPrinted, FilePrinted};

@@ -22,7 +22,7 @@ pub const MOST_PAYLOAD: usize = 652;
 pub const MOST_LIST: usize = 308;
 
 // What these constants are.
-#[derive(Drop)]
+#[derive(Clone, Copy)]
 pub struct Largest {
     pub version: usize,
     pub side: usize,
@@ -261,7 +261,7 @@ pub fn surplus(v: usize) -> usize
 }
 
 // What the length of a matrix says of its version.
-#[derive(Drop)]
+#[derive(Clone, Copy)]
 pub enum Fixed {
     Version(usize),
     NoVersion,

@@ -109,6 +109,11 @@ pub room_piece : {out whole after piece : List ℕ} {pieces : List (List ℕ)} {
 unfolding joined
 room_piece {piece = piece} {pieces = pieces} h p = room piece (joined pieces) h p.progress
 
+-- a byte takes the room of any other
+pub room_byte : {out whole after : List ℕ} {b d : ℕ} {pieces : List (List ℕ)} {at n : ℕ}
+    → RoomForBytes out at whole → Writing out at whole after n ((b ∷ []) ∷ pieces) → RoomForBytes after n (d ∷ [])
+room_byte h p = record { fits = (room_piece h p).fits }
+
 pub put : {out whole after o₂ piece : List ℕ} {pieces : List (List ℕ)} {at n m : ℕ}
     → Writing out at whole after n (piece ∷ pieces) → Pasted after n piece m o₂ → Writing out at whole o₂ m pieces
 unfolding joined

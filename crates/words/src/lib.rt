@@ -35,7 +35,7 @@ const BOUND: u32 = 6;
 const CODES: [u8; 4] = [1, 0, 3, 2];
 
 // The word that a copy stands for, by its data bits.
-#[derive(Drop)]
+#[derive(Clone, Copy)]
 pub enum Found {
     Word(u32),
     NoWord,

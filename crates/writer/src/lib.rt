@@ -225,7 +225,7 @@ fn draw_at(
 }
 
 // "Its answer: version, mask, side."
-#[derive(Drop)]
+#[derive(Clone, Copy)]
 pub struct Symbol {
     pub version: u32,
     pub mask: u32,
@@ -233,7 +233,7 @@ pub struct Symbol {
 }
 
 // What a request gets: a symbol, or the number of its refusal.
-#[derive(Drop)]
+#[derive(Clone, Copy)]
 pub enum Drawing {
     Drawn(Symbol),
     Refused(u8),

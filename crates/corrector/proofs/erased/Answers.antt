@@ -2,23 +2,21 @@
 use borrow.Author.Rules.{rules}
 use mathlib.Core.Path.{◌≡◌, refl}
 use native.Mathlib.Omega.{arith}
-use mir.Val.{Fits}
-use mir.Syntax.{w8}
-use lib.ListN.{get_or}
 use Rattle.theory.proofs.Places.{erase_all}
 use Rattle.corrector.specs.Places.{picked}
 use Rattle.corrector.proofs.Erasing.{erasing_turn, power_start}
+use Rattle.corrector.proofs.Rows.{row}
 use Rattle.corrector.proofs.erased.Goals as goal
 
 pub loop-j-init : goal.loop-j-init
 loop-j-init c = let s = c.args.s in
-    (record { long = search rules; bytes = λ h. let f : Fits w8 (get_or s h 0) = search rules in omega (arith, f) }, omega arith, power_start _, λ h. refl)
+    (row s (search rules) (λ h. search rules), omega arith, power_start _, λ h. refl)
 
 pub loop-j-preserved : goal.loop-j-preserved
 loop-j-preserved c = let l = c.loop-j in
     let t = c.without-next.result in
     let turn = erasing_turn c.args.flags.now c.args.s l.r l.x l.j t c.dbl-x.result (omega arith) l.invariant.1 l.invariant.0 l.invariant.2 c.without-next.ensures c.dbl-x.ensures l.invariant.3 in
-    (record { long = search rules; bytes = λ h. let f : Fits w8 (get_or t h 0) = search rules in omega (arith, f) }, turn.0, turn.1, turn.2)
+    (row t (search rules) (λ h. search rules), turn.0, turn.1, turn.2)
 
 pub returns : goal.returns
 unfolding erase_all picked

@@ -7,7 +7,7 @@ use mir.Val.{Fits}
 use mir.Syntax.{w8}
 use lib.ListN.{get_or}
 use Rattle.corrector.specs.Lanes.{filled, times_plus, poly}
-use Rattle.corrector.proofs.Rows.{Row, zeros_row}
+use Rattle.corrector.proofs.Rows.{row, Row, zeros_row}
 use Rattle.corrector.proofs.Turns.{summed_start, summed_turn, summed_all}
 use Rattle.corrector.proofs.evaluator.Goals as goal
 
@@ -23,9 +23,9 @@ loop-k-preserved c = let l = c.loop-k in
     let t = c.times_plus-next.result in
     let made : t ≡ times_plus _ (filled (get_or s l.k 0)) l.r =
     c.times_plus-next.ensures ∙ ap (λ u. times_plus u (filled (get_or s l.k 0)) l.r) c.lower-low.ensures in
-    let row : Row t = record { long = search rules; bytes = λ h. let f : Fits w8 (get_or t h 0) = search rules in omega (arith, f) } in
+    let made_row : Row t = row t (search rules) (λ h. search rules) in
     let bytes : (h : ℕ) → get_or a h 0 < 256 = λ h. let f : Fits w8 (get_or a h 0) = search rules in omega (arith, f) in
-    (row, omega arith, λ h. ap (λ u. poly u h) made ∙ summed_turn a s l.r l.k bytes (search rules) l.invariant.0.long l.invariant.2 h)
+    (made_row, omega arith, λ h. ap (λ u. poly u h) made ∙ summed_turn a s l.r l.k bytes (search rules) l.invariant.0.long l.invariant.2 h)
 
 pub returns : goal.returns
 returns c = let l = c.loop-k in

@@ -1,16 +1,11 @@
 -- `corrector::grouped` meets its contract.
 use borrow.Author.Rules.{rules}
-use mathlib.Core.Path.{◌≡◌}
-use native.Mathlib.Nat.{sub-zero}
 use native.Mathlib.Omega.{arith}
 use mir.Val.{Fits}
 use mir.Syntax.{w8}
 use lib.ListN.{get_or}
 use Rattle.corrector.proofs.Listing.{grouped_turn}
 use Rattle.corrector.proofs.grouped.Goals as goal
-
-pub loop-i-init : goal.loop-i-init
-loop-i-init c = (omega arith, omega arith, λ a ev ex f. rw sub-zero f)
 
 pub loop-i-preserved : goal.loop-i-preserved
 loop-i-preserved c = let l = c.loop-i in
@@ -22,8 +17,3 @@ loop-i-preserved c = let l = c.loop-i in
       grouped_turn a.flags.now a.vs a.xs a.top a.many l.i a.found.at a.found.xs a.found.count l.list.at l.list.xs l.list.count r.at r.xs r.count
           c.requires.2 c.requires.3 (omega arith) (omega (arith, bv)) c.noted-list.ensures.1 l.invariant.2,
     )
-
-pub returns : goal.returns
-returns c = let l = c.loop-i in
-    let e : l.i ≡ c.args.many = omega arith in
-    λ a ev ex f. rw e at (l.invariant.2 a ev ex f)

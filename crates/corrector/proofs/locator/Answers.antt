@@ -2,11 +2,9 @@
 use borrow.Author.Rules.{rules}
 use mathlib.Core.Path.{◌≡◌, ap, ◌∙◌}
 use native.Mathlib.Omega.{arith}
-use mir.Val.{Fits}
-use mir.Syntax.{w8}
 use lib.ListN.{get_or}
 use Rattle.corrector.specs.Lanes.{filled, times_plus, poly}
-use Rattle.corrector.proofs.Rows.{unit_row}
+use Rattle.corrector.proofs.Rows.{row, unit_row}
 use Rattle.corrector.proofs.Turns.{product_start, product_turn}
 use Rattle.corrector.proofs.locator.Goals as goal
 
@@ -19,9 +17,4 @@ loop-k-preserved c = let l = c.loop-k in
     let xs = c.args.xs in
     let t = c.times_plus-next.result in
     let made : t ≡ times_plus l.r (filled (get_or xs l.k 0)) _ = c.times_plus-next.ensures ∙ ap (times_plus l.r (filled (get_or xs l.k 0))) c.raise-high.ensures in
-    (record { long = search rules; bytes = λ h. let f : Fits w8 (get_or t h 0) = search rules in omega (arith, f) }, omega arith, λ h. ap (λ u. poly u h) made ∙ product_turn xs l.r l.k (omega arith) l.invariant.0 l.invariant.2 h)
-
-pub returns : goal.returns
-returns c = let l = c.loop-k in
-    let e : l.k ≡ c.args.count = omega arith in
-    rw e at l.invariant.2
+    (row t (search rules) (λ h. search rules), omega arith, λ h. ap (λ u. poly u h) made ∙ product_turn xs l.r l.k (omega arith) l.invariant.0 l.invariant.2 h)

@@ -1,12 +1,10 @@
 -- `corrector::magnitudes` meets its contract.
 use native.Mathlib.Numerals.{add-one}
 use native.Mathlib.Omega.{arith}
-use mir.Val.{Fits}
-use mir.Syntax.{w8}
-use lib.ListN.{get_or}
 use Rattle.corrector.specs.Lanes.{filled}
 use Rattle.corrector.proofs.Turns.{magnitudes_made, product_few, evaluator_few}
 use borrow.Author.Rules.{rules}
+use Rattle.corrector.proofs.Rows.{row}
 use Rattle.corrector.proofs.magnitudes.Goals as goal
 
 pub evaluator-sums-requires : goal.evaluator-sums-requires
@@ -28,4 +26,4 @@ returns c = let product = c.locator-product in
     let bottoms = c.slopes-bottoms.result in
     magnitudes_made c.args.xs c.args.count c.args.s product.result sums.result tops bottoms c.inverses.result c.times_plus.result
     product.ensures sums.ensures c.values-tops.ensures c.slopes-bottoms.ensures c.inverses.ensures c.times_plus.ensures
-    record { long = search rules; bytes = λ h. let f : Fits w8 (get_or tops h 0) = search rules in omega (arith, f) } record { long = search rules; bytes = λ h. let f : Fits w8 (get_or bottoms h 0) = search rules in omega (arith, f) }
+    (row tops (search rules) (λ h. search rules)) (row bottoms (search rules) (λ h. search rules))

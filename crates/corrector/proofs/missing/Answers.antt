@@ -7,16 +7,11 @@ use lib.Dec.{eqb}
 use lib.ListN.{get_or}
 use Rattle.basics.specs.Sums.{tally}
 use Rattle.code.specs.Code.{unreadable}
-use Rattle.corrector.proofs.Counting.{counted_start, counted_step, one_most}
+use Rattle.corrector.proofs.Counting.{counted_start, counted_step}
 use Rattle.corrector.proofs.missing.Goals as goal
 
 pub loop-j-init : goal.loop-j-init
 loop-j-init c = (omega arith, counted_start _)
-
-pub overflow_add-e : goal.overflow_add-e
-overflow_add-e c = let l = c.loop-j in
-    let flags = c.args.flags.now in
-    omega (arith, one_most (not (eqb (get_or flags l.j 0) 0)), c.mark-e.ensures)
 
 pub loop-j-preserved : goal.loop-j-preserved
 loop-j-preserved c = let l = c.loop-j in

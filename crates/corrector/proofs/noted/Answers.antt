@@ -4,15 +4,12 @@ use mathlib.Core.Bool.{true, not, ◌||◌}
 use native.Mathlib.Omega.{arith}
 use lib.Dec.{eqb}
 use borrow.Author.Tests.{eq-eqb, ne_eqb}
-use Rattle.corrector.proofs.Listing.{found_pass, found_full, found_more}
+use Rattle.corrector.proofs.Listing.{found_pass, found_more}
 use Rattle.corrector.proofs.noted.Goals as goal
 use Rattle.corrector.proofs.noted.Goals.{then-flag-eq0+else-v-ne0, else-flag-eq0}
 
 pub returns-then-v-ne0 : goal.returns-then-v-ne0
 returns-then-v-ne0 c = (omega arith, λ flags a l e p f. found_pass f (e ∙ rw (eq-eqb _ _ c.if-flag-eq0.true, ne_eqb _ _ c.if-v-ne0.true)))
-
-pub returns-then-count-eq31 : goal.returns-then-count-eq31
-returns-then-count-eq31 c = (omega arith, λ flags a l e p f. found_full f c.if-count-eq31.true)
 
 pub returns : goal.returns
 returns c =

@@ -1,5 +1,4 @@
 -- `corrector::proposed` meets its contract.
-use native.Mathlib.Numerals.{add-one}
 use native.Mathlib.Omega.{arith}
 use mir.Val.{Fits}
 use mir.Syntax.{w8}
@@ -23,9 +22,6 @@ traced :
     → Asked w flags s n e → Bytes w → Erased s flags left → Running left st.i st.l st.a st.b st.e → st.i + st.l ≡ n - e → Found flags st.a 0 found.at found.xs found.count
     → Traced w flags s left st.a st.b n e st.i st.l st.e found.at found.xs found.count
 traced st found asked bytes folded run whole listed = record { asked = asked; bytes = bytes; folded = folded; run = run; whole = whole; found = listed }
-
-pub suspected-found-requires : goal.suspected-found-requires
-suspected-found-requires c = (omega arith, omega arith, rw add-one c.run-st.ensures.0.monic.below)
 
 pub returns-then-n-count : goal.returns-then-n-count
 returns-then-n-count c = let k =

@@ -2,12 +2,9 @@
 use borrow.Author.Rules.{rules}
 use mathlib.Core.Path.{◌≡◌, ap, ◌∙◌}
 use native.Mathlib.Omega.{arith}
-use mir.Val.{Fits}
-use mir.Syntax.{w8}
-use lib.ListN.{get_or}
 use Rattle.theory.proofs.Gf.{gf256}
 use Rattle.corrector.specs.Lanes.{filled, poly}
-use Rattle.corrector.proofs.Rows.{Row, zeros_row}
+use Rattle.corrector.proofs.Rows.{row, Row, zeros_row}
 use Rattle.theory.proofs.Values.{slopes_all}
 use Rattle.corrector.proofs.Turns.{valued_start, valued_turn, sloped_start, sloped_turn}
 use Rattle.corrector.proofs.slopes.Goals as goal
@@ -22,9 +19,9 @@ loop-k-preserved c = let l = c.loop-k in
     let a = c.args.a in
     let t = c.times_plus-up.result in
     let u = c.times_plus-next.result in
-    let ra : Row a = record { long = search rules; bytes = λ h. let f : Fits w8 (get_or a h 0) = search rules in omega (arith, f) } in (
-      record { long = search rules; bytes = λ h. let f : Fits w8 (get_or t h 0) = search rules in omega (arith, f) },
-      record { long = search rules; bytes = λ h. let f : Fits w8 (get_or u h 0) = search rules in omega (arith, f) },
+    let ra : Row a = row a (search rules) (λ h. search rules) in (
+      row t (search rules) (λ h. search rules),
+      row u (search rules) (λ h. search rules),
       omega arith,
       λ i m. ap (λ u. poly u i) c.times_plus-up.ensures ∙ sloped_turn a c.args.xs l.r l.p l.k (omega arith) ra l.invariant.0 (search rules) l.invariant.1.long l.invariant.4 l.invariant.3 i m,
       λ i m. ap (λ u. poly u i) c.times_plus-next.ensures ∙ valued_turn a c.args.xs l.p l.k (omega arith) ra l.invariant.1 (search rules) l.invariant.4 i m,

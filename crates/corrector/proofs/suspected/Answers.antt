@@ -3,31 +3,16 @@ use borrow.Author.Rules.{rules}
 use Prim.Native.Nat.{ℕ, ◌+◌, ◌-◌}
 use mathlib.Core.Path.{◌≡◌, sym, ap, ◌∙◌}
 use native.Mathlib.Omega.{arith}
-use mir.Val.{Fits}
-use mir.Syntax.{w8}
 use lib.ListN.{length, get_or}
 use Rattle.field.specs.Field.{pow_n}
 use Rattle.corrector.specs.Lanes.{filled}
 use Rattle.corrector.proofs.Listing.{Located, located_start, located_turn, found_start, powers, powers_row}
+use Rattle.corrector.proofs.Rows.{row}
 use Rattle.corrector.proofs.suspected.Goals as goal
 
 pub loop-top-init : goal.loop-top-init
 unfolding filled powers
 loop-top-init c = (powers_row, omega arith, λ h. located_start _, found_start _ _)
-
-pub values-vs-requires : goal.values-vs-requires
-values-vs-requires c = (c.requires.1, c.requires.2)
-
-pub grouped-found-requires : goal.grouped-found-requires
-grouped-found-requires c = let l = c.loop-top in
-    let many = c.least-many.ensures in
-    (l.invariant.3.small, c.requires.0, l.invariant.1, many.within, many.small)
-
-pub overflow_sub-top : goal.overflow_sub-top
-overflow_sub-top c = c.least-many.ensures.within
-
-pub loop-top-smaller : goal.loop-top-smaller
-loop-top-smaller c = let many = c.least-many.ensures in omega (arith, many.within, many.some (omega arith))
 
 pub loop-top-preserved : goal.loop-top-preserved
 unfolding filled
@@ -36,7 +21,7 @@ loop-top-preserved c = let l = c.loop-top in
     let least = c.least-many in
     let here : Located (length flags) l.top l.xs = l.invariant.2 (omega arith) in
     let t = c.times_plus-next.result in (
-      record { long = search rules; bytes = λ h. let f : Fits w8 (get_or t h 0) = search rules in omega (arith, f) },
+      row t (search rules) (λ h. search rules),
       omega arith,
       λ h i m.
           let full : least.result ≡ 32 = least.ensures.full (omega arith) in
@@ -45,8 +30,3 @@ loop-top-preserved c = let l = c.loop-top in
           (λ i m. here i (omega (arith, least.ensures.small)) ∙ ap pow_n (omega (arith, least.ensures.within, l.invariant.1)))
           l.invariant.3,
     )
-
-pub returns : goal.returns
-returns c = let l = c.loop-top in
-    let z : l.top ≡ 0 = omega arith in
-    rw z at l.invariant.3

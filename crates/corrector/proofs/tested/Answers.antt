@@ -22,9 +22,6 @@ overflow_mul-t c = let k = counts c in search rules
 pub overflow_add-t : goal.overflow_add-t
 overflow_add-t c = let k = counts c in search rules
 
-pub returns-then-room-t : goal.returns-then-room-t
-returns-then-room-t c = λ t e st. omega (arith, st.near, st.differs, st.missing, c.if-room-t.true, c.missing-e.ensures, c.differ-t.ensures)
-
 pub returns : goal.returns
 returns c = record {
   codeword = zeros_codeword c.requires.3 c.syndromes.ensures c.first.ensures c.if-first-lt32.false (λ j l. omega (arith, c.type_inv.c j));

@@ -1,5 +1,5 @@
 -- `corrector::total` meets its contract.
-use mathlib.Core.Path.{◌≡◌, refl}
+use mathlib.Core.Path.{refl}
 use native.Mathlib.Omega.{arith}
 use Rattle.theory.proofs.Sum.{sum}
 use Rattle.corrector.proofs.Rows.{total_step}
@@ -13,8 +13,3 @@ pub loop-i-preserved : goal.loop-i-preserved
 unfolding sum
 loop-i-preserved c = let l = c.loop-i in
     (omega arith, total_step c.args.a l.i l.r l.invariant.1)
-
-pub returns : goal.returns
-returns c = let l = c.loop-i in
-    let e : l.i ≡ 32 = omega arith in
-    rw e at l.invariant.1

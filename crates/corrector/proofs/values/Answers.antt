@@ -2,12 +2,9 @@
 use borrow.Author.Rules.{rules}
 use mathlib.Core.Path.{◌≡◌, ap, ◌∙◌}
 use native.Mathlib.Omega.{arith}
-use mir.Val.{Fits}
-use mir.Syntax.{w8}
-use lib.ListN.{get_or}
 use Rattle.theory.proofs.Gf.{gf256}
 use Rattle.corrector.specs.Lanes.{filled, poly}
-use Rattle.corrector.proofs.Rows.{Row, zeros_row}
+use Rattle.corrector.proofs.Rows.{row, Row, zeros_row}
 use Rattle.theory.proofs.Values.{tail_all}
 use Rattle.corrector.proofs.Turns.{valued_start, valued_turn}
 use Rattle.corrector.proofs.values.Goals as goal
@@ -21,9 +18,9 @@ unfolding filled
 loop-k-preserved c = let l = c.loop-k in
     let a = c.args.a in
     let t = c.times_plus-next.result in
-    let row : Row t = record { long = search rules; bytes = λ h. let f : Fits w8 (get_or t h 0) = search rules in omega (arith, f) } in
-    let coefficients : Row a = record { long = search rules; bytes = λ h. let f : Fits w8 (get_or a h 0) = search rules in omega (arith, f) } in (
-      row,
+    let made_row : Row t = row t (search rules) (λ h. search rules) in
+    let coefficients : Row a = row a (search rules) (λ h. search rules) in (
+      made_row,
       omega arith,
       λ i m. ap (λ u. poly u i) c.times_plus-next.ensures ∙ valued_turn a c.args.xs l.r l.k (omega arith) coefficients l.invariant.0 (search rules) l.invariant.2 i m,
     )

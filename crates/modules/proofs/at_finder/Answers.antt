@@ -3,11 +3,7 @@ use Prim.Native.Nat.{◌+◌, ◌*◌}
 use native.Mathlib.Omega.{arith}
 use borrow.Author.Tests.{eq-eqb, ne_eqb}
 use Rattle.modules.specs.Kinds.{at_finder}
-use Rattle.modules.proofs.Centres.{small_product}
 use Rattle.modules.proofs.at_finder.Goals as goal
-
-pub overflow_mul-a : goal.overflow_mul-a
-overflow_mul-a c = omega (arith, small_product c.args.a c.args.b (omega arith) (omega arith))
 
 pub returns-then-a-b-ne0 : goal.returns-then-a-b-ne0
 unfolding at_finder

@@ -1,5 +1,4 @@
 -- `modules::fill` meets its contract: the invariant: the first q column pairs have taken their bits, over the version's kinds.
-use mathlib.Core.Path.{sym, ◌∙◌}
 use Prim.Native.Nat.{◌*◌}
 use native.Mathlib.Omega.{arith}
 use Rattle.basics.specs.Bits.{byte_bits}
@@ -34,11 +33,6 @@ pub loop-q-preserved : goal.loop-q-preserved
 loop-q-preserved c =
     let l = c.loop-q in
     (omega arith, pair_more c.args.v (omega arith) (omega arith) c.args.codewords.now l.q _ _ _ _ l.invariant.1 c.pair-used.ensures)
-
-pub shape_of-base : goal.shape_of-base
-shape_of-base c =
-    kept_length _ _ _ _ _ _ _ c.loop-q.invariant.1 ∙ kinds_length c.args.v (omega arith) (omega arith) (byte_bits c.args.codewords.now)
-    ∙ sym c.requires.1.1
 
 pub returns : goal.returns
 returns c =

@@ -2,7 +2,7 @@
 use mathlib.Core.Path.{◌≡◌, sym, ap, ◌∙◌}
 use mathlib.Core.List.{List, ◌++◌}
 use Prim.Native.Nat.{ℕ, ◌+◌, ◌*◌, ◌≤◌, ◌<◌}
-use native.Mathlib.Nat.{le_antisymm, le_trans, zero-mul, mul-le-mul_right}
+use native.Mathlib.Nat.{le_antisymm, zero-mul}
 use native.Mathlib.Omega.{arith}
 use lib.ListN.{length, drop}
 use Rattle.basics.specs.Build.{build}
@@ -42,33 +42,6 @@ pub loop-i-init : goal.loop-i-init
 unfolding build
 loop-i-init c = (omega arith, rw zero-mul)
 
-pub overflow_mul-a : goal.overflow_mul-a
-overflow_mul-a c =
-    let e =
-    ends _ c.loop-i.i _ (side c.args.v) _ _ _ c.side-s.ensures (omega (arith, c.requires.0.most)) c.loop-i-test.true
-    c.requires.1.1.0 c.requires.1.1.1.1 c.loop-i.invariant.1 in
-    omega (arith, e)
-
-pub overflow_add-e : goal.overflow_add-e
-overflow_add-e c =
-    let e =
-    ends _ c.loop-i.i _ (side c.args.v) _ _ _ c.side-s.ensures (omega (arith, c.requires.0.most)) c.loop-i-test.true
-    c.requires.1.1.0 c.requires.1.1.1.1 c.loop-i.invariant.1 in
-    omega (arith, e)
-
-pub slice_bounds-tint_row-end : goal.slice_bounds-tint_row-end
-slice_bounds-tint_row-end c =
-    (ends _ c.loop-i.i _ (side c.args.v) _ _ _ c.side-s.ensures (omega (arith, c.requires.0.most)) c.loop-i-test.true
-    c.requires.1.1.0 c.requires.1.1.1.1 c.loop-i.invariant.1).in_base
-
-pub slice_bounds-tint_row-end-in-loop-i : goal.slice_bounds-tint_row-end-in-loop-i
-slice_bounds-tint_row-end-in-loop-i c =
-    (ends _ c.loop-i.i _ (side c.args.v) _ _ _ c.side-s.ensures (omega (arith, c.requires.0.most)) c.loop-i-test.true
-    c.requires.1.1.0 c.requires.1.1.1.1 c.loop-i.invariant.1).in_out
-
-pub row_flips-requires : goal.row_flips-requires
-row_flips-requires c = (omega arith, omega (arith, c.requires.0.most, c.side-s.ensures))
-
 pub tint_row-requires : goal.tint_row-requires
 tint_row-requires c =
     let base = c.args.base.now in
@@ -98,13 +71,6 @@ loop-i-preserved c =
           (λ j h. row_at c.args.v c.args.level c.args.mask (omega arith) (omega arith) base c.requires.1.1.1.0 n
           c.side-s.ensures e.small i _ _ j c.loop-i-test.true word c.row_flips.ensures h),
     )
-
-pub shape_of-out : goal.shape_of-out
-shape_of-out c =
-    let n = c.side-s.result in
-    let size : n * n ≡ side c.args.v * side c.args.v = ap (λ (n : ℕ). n * n) c.side-s.ensures in
-    front_length _ (c.loop-i.i * n) _ _ c.loop-i.invariant.1
-    (le_trans (mul-le-mul_right n c.loop-i.invariant.0) (rw size c.requires.1.1.1.1))
 
 pub returns : goal.returns
 returns c =

@@ -1,7 +1,6 @@
 -- `modules::formats` meets its contract: the invariant: t stores are made.
 use mathlib.Core.Path.{refl}
 use Prim.Native.Nat.{◌/◌, ◌%◌}
-use native.Mathlib.Nat.{le_antisymm}
 use native.Mathlib.Omega.{arith}
 use Rattle.basics.proofs.Walk.{walked_none, walked_more, walked_made}
 use Rattle.modules.specs.Kinds.{format_place, format_value}
@@ -21,9 +20,3 @@ unfolding format_place format_value
 loop-t-preserved c = let l = c.loop-t in
     let v = c.args.v in
     (omega arith, walked_more (format_place v) format_value _ l.out l.t _ _ l.invariant.1 c.format_place-p.ensures refl)
-
-pub shape_of-out : goal.shape_of-out
-shape_of-out c = walked_made _ _ _ _ _ c.loop-t.invariant.1
-
-pub returns : goal.returns
-returns c = rw (le_antisymm c.loop-t.invariant.0 c.loop-t-test.false) at c.loop-t.invariant.1

@@ -1,18 +1,12 @@
 -- `modules::pair` meets its contract: the invariant: 2t modules of the pair are met.
-use mathlib.Core.Path.{◌≡◌, ◌∙◌}
+use mathlib.Core.Path.{◌≡◌}
 use Prim.Native.Nat.{suc, ◌+◌, ◌*◌}
-use native.Mathlib.Nat.{le_antisymm}
 use native.Mathlib.Omega.{arith}
-use Rattle.tables.specs.Tables.{side}
 use Rattle.modules.proofs.Filling.{put_none, put_more, kept_length, few_used, first_place, second_place}
 use Rattle.modules.proofs.pair.Goals as goal
 
 pub loop-t-init : goal.loop-t-init
 loop-t-init c = (omega arith, put_none _ _ _)
-
-pub place-p-requires : goal.place-p-requires
-place-p-requires c =
-    (omega (arith, c.side-s.ensures), (omega (arith, c.pair_row.ensures.1), omega (arith, c.pair_column-right.ensures.1.1, c.side-s.ensures)))
 
 pub put-used-requires : goal.put-used-requires
 put-used-requires c =
@@ -23,9 +17,6 @@ put-used-requires c =
       omega (arith, in_matrix, c.requires.1.1.1.1, long),
       omega (arith, few, c.side-s.ensures, c.requires.1.1.1.0),
     )
-
-pub overflow_sub-p : goal.overflow_sub-p
-overflow_sub-p c = omega (arith, c.place-p.ensures.0, c.pair_column-right.ensures.1.0)
 
 pub put-used-requires-in-loop-t : goal.put-used-requires-in-loop-t
 put-used-requires-in-loop-t c =
@@ -52,12 +43,3 @@ loop-t-preserved c =
     let two = put_more _ _ _ _ _ (suc (2 * l.t)) _ one second c.put-used-in-loop-t.ensures in
     let count : suc (suc (2 * l.t)) ≡ 2 * (l.t + 1) = omega arith in
     (omega arith, rw count at two)
-
-pub shape_of-base : goal.shape_of-base
-shape_of-base c = kept_length _ _ _ _ _ _ _ c.loop-t.invariant.1
-
-pub returns : goal.returns
-returns c =
-    let l = c.loop-t in
-    let end : l.t ≡ side c.args.v = le_antisymm l.invariant.0 c.loop-t-test.false ∙ c.side-s.ensures in
-    rw end at l.invariant.1

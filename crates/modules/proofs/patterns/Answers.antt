@@ -4,10 +4,6 @@ use native.Mathlib.Omega.{arith}
 use Rattle.modules.proofs.Drawn.{below_made, from_made, below_drawn, from_drawn}
 use Rattle.modules.proofs.patterns.Goals as goal
 
-pub finders-requires : goal.finders-requires
-finders-requires c =
-    (omega (arith, c.side.ensures), (omega (arith, c.side.ensures), rw c.side.ensures (omega (arith, c.clear.auto.out, c.requires.1.1))))
-
 pub returns-then-v-lt-FIRST_WITH_WORD : goal.returns-then-v-lt-FIRST_WITH_WORD
 returns-then-v-lt-FIRST_WITH_WORD c =
     below_made _ _ _ _ _ _ c.requires.1.1 c.clear.ensures c.side.ensures c.finders.ensures c.frame.ensures

@@ -1,9 +1,9 @@
 -- `modules::row_flips` meets its contract: one computed test over every mask and row.
 use mathlib.Core.Path.{ap, ◌∙◌}
 use mathlib.Core.List.{List, [], ◌∷◌}
-use Prim.Native.Nat.{ℕ, ◌*◌, ◌%◌, ◌≤◌, ◌<◌}
+use Prim.Native.Nat.{ℕ, ◌*◌, ◌%◌}
 use native.Mathlib.Omega.{arith}
-use lib.Dec.{T, eqb, leb, eqb→eq, leb→le}
+use lib.Dec.{T, eqb, eqb→eq}
 use lib.ListN.{get_or}
 use Rattle.basics.proofs.Test.{all, grid}
 use Rattle.modules.specs.Kinds.{row_flips}
@@ -23,17 +23,6 @@ sixths = 18300341342965825
 tested : T (all 8 (λ m. all 60 (λ i. eqb (get_or (get_or rows m []) (i % 12) 0 * sixths) (row_flips m i))))
 unfolding every rows row_flips
 tested = tt
-
-low_tested : T (all 8 (λ m. all 12 (λ i. leb (get_or (get_or rows m []) i 0) 63)))
-unfolding rows
-low_tested = tt
-
-low : (m i : ℕ) → m < 8 → i < 12 → get_or (get_or rows m []) i 0 ≤ 63
-low m i hm hi = leb→le _ _ (grid 8 12 (λ m i. leb (get_or (get_or rows m []) i 0) 63) low_tested m i hm hi)
-
-pub overflow_mul-result : goal.overflow_mul-result
-unfolding rows
-overflow_mul-result c = omega (arith, c.wide.ensures, low c.args.mask (c.args.i % 12) (omega arith) (omega arith))
 
 pub returns : goal.returns
 unfolding rows

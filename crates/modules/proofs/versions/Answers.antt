@@ -1,6 +1,5 @@
 -- `modules::versions` meets its contract: the invariant: t stores are made.
 use Prim.Native.Nat.{◌/◌, ◌%◌}
-use native.Mathlib.Nat.{le_antisymm}
 use native.Mathlib.Omega.{arith}
 use Rattle.basics.proofs.Walk.{walked_none, walked_more, walked_made}
 use Rattle.modules.specs.Kinds.{version_place, version_value}
@@ -20,9 +19,3 @@ unfolding version_place version_value
 loop-t-preserved c = let l = c.loop-t in
     let a = c.args in
     (omega arith, walked_more (version_place a.v) (version_value a.word) _ l.out l.t _ _ l.invariant.1 c.version_place-p.ensures c.bit_of.ensures)
-
-pub shape_of-out : goal.shape_of-out
-shape_of-out c = walked_made _ _ _ _ _ c.loop-t.invariant.1
-
-pub returns : goal.returns
-returns c = rw (le_antisymm c.loop-t.invariant.0 c.loop-t-test.false) at c.loop-t.invariant.1

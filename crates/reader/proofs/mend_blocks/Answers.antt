@@ -56,6 +56,9 @@ module _ (v level count n bound : ℕ) (w_0 f w : List ℕ) (a b t e long : ℕ)
           given = given;
         }
 
+-- ---- the goals
+-- the laws of `Mending` say that the loop begins, goes on and ends; the rest are bounds
+
 pub loop-b-init : goal.loop-b-init
 loop-b-init c = (mending_none _ _ _ _, c.blocks-count.ensures, c.checks-n.ensures, c.room-room.ensures)
 

@@ -4,20 +4,11 @@ use mathlib.Core.List.{List, map}
 use Prim.Native.Nat.{ℕ}
 use native.Mathlib.Omega.{arith}
 use lib.ListN.{length}
-use lib.Seq.{length-take-le}
 use Rattle.basics.specs.Lists.{up_to, AtMost}
 use Rattle.tables.proofs.Rules.{total_most}
 use Rattle.scan.specs.Received.{codeword, flag, codewords, flags}
-use Rattle.scan.proofs.Reading.{side_most}
 use Rattle.scan.proofs.Whole.{received_length, received_le}
 use Rattle.scan.proofs.codewords.Goals as goal
-
-pub gather-n-requires : goal.gather-n-requires
-gather-n-requires c = record { le_v = c.requires.le_v; m_len = (c.requires.m_len.0, side_most c.args.v c.requires.le_v.1.0) }
-
-pub slice_bounds-pack-end : goal.slice_bounds-pack-end
-slice_bounds-pack-end c =
-    let g = c.gather-n.ensures in sym (length-take-le c.gather-n.result c.gather-n.new.out (omega (arith, g.0, g.1.0)))
 
 pub pack-requires : goal.pack-requires
 pack-requires c =

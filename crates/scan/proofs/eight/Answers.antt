@@ -49,13 +49,6 @@ pub loop-t-init : goal.loop-t-init
 unfolding number number_after any
 loop-t-init c = (search rules, search rules, refl, refl)
 
-pub overflow_mul-x : goal.overflow_mul-x
-overflow_mul-x c = omega (arith, small c.loop-t.x c.loop-t.t (search rules) (search rules))
-
-pub overflow_add-x : goal.overflow_add-x
-overflow_add-x c = let l = c.loop-t in
-    omega (arith, small l.x l.t (search rules) (search rules), c.requires.0 (c.args.at + l.t) (omega (arith, c.requires.1)), c.wide.ensures)
-
 pub loop-t-preserved : goal.loop-t-preserved
 loop-t-preserved c = let l = c.loop-t in
     let at : ℕ = c.args.at in
@@ -75,20 +68,8 @@ loop-t-preserved c = let l = c.loop-t in
           ∙ rw (l.invariant.3, ← get_or-drop at bits l.t 0) (sym (flag_more (drop at bits) l.t long)),
     )
 
-pub returns-then-flag-eq1 : goal.returns-then-flag-eq1
-returns-then-flag-eq1 c = let l = c.loop-t in
-    let done : l.t ≡ 8 = omega arith in
-    let f = rw done at l.invariant.3 in
-    record { flag = f; value = rw (← f, eq-eqb _ 1 c.if-flag-eq1.true) }
-
 pub overflow_cast-result : goal.overflow_cast-result
 overflow_cast-result c =
     let l = c.loop-t in
     let done : l.t ≡ 8 = omega arith in
     record { fits = clear c.args.bits.now c.args.at l.x l.flag c.requires.0 c.requires.1 (rw done at l.invariant.2) (rw done at l.invariant.3) c.if-flag-eq1.false }
-
-pub returns : goal.returns
-returns c = let l = c.loop-t in
-    let done : l.t ≡ 8 = omega arith in
-    let f = rw done at l.invariant.3 in
-    record { flag = f; value = rw (← f, ne_eqb _ 1 c.if-flag-eq1.false) (rw done at l.invariant.2) }

@@ -7,12 +7,8 @@ use native.Mathlib.Omega.{arith}
 use Rattle.tables.specs.Tables.{side}
 use Rattle.scan.specs.Scan.{DataMap}
 use Rattle.scan.proofs.Maps.{kinds_map}
-use Rattle.scan.proofs.Reading.{side_most}
 use Rattle.scan.proofs.Whole.{received_passed}
 use Rattle.scan.proofs.gather.Goals as goal
-
-pub kinds-requires : goal.kinds-requires
-kinds-requires c = (c.requires.le_v.0, (c.requires.le_v.1.0, side_most c.args.v c.requires.le_v.1.0))
 
 pub walk-requires : goal.walk-requires
 walk-requires c =

@@ -45,32 +45,9 @@ met v q r n s a m kinds rows out e h k hq hr w =
       tells = k.marked.tells (a.row * s + a.column) there;
     }
 
-pub overflow_mul-p : goal.overflow_mul-p
-overflow_mul-p c =
-    let a = met c.args.v c.args.q c.args.r c.args.n _ _ _ _ _ _ c.side-s.ensures c.step-a.ensures c.requires.ready.0 c.requires.ready.1.0 c.requires.ready.1.1 c.requires.walked in
-    omega (arith, a.place_inside, a.small)
-
-pub overflow_add-p : goal.overflow_add-p
-overflow_add-p c =
-    let a = met c.args.v c.args.q c.args.r c.args.n _ _ _ _ _ _ c.side-s.ensures c.step-a.ensures c.requires.ready.0 c.requires.ready.1.0 c.requires.ready.1.1 c.requires.walked in
-    omega (arith, a.place_inside, a.small)
-
-pub bounds-kinds-p : goal.bounds-kinds-p
-bounds-kinds-p c =
-    (met c.args.v c.args.q c.args.r c.args.n _ _ _ _ _ _ c.side-s.ensures c.step-a.ensures c.requires.ready.0 c.requires.ready.1.0 c.requires.ready.1.1 c.requires.walked).in_kinds
-
-pub bounds-m-p : goal.bounds-m-p
-bounds-m-p c =
-    (met c.args.v c.args.q c.args.r c.args.n _ _ _ _ _ _ c.side-s.ensures c.step-a.ensures c.requires.ready.0 c.requires.ready.1.0 c.requires.ready.1.1 c.requires.walked).in_m
-
 pub bounds-out-n : goal.bounds-out-n
 bounds-out-n c =
     (met c.args.v c.args.q c.args.r c.args.n _ _ _ _ _ _ c.side-s.ensures c.step-a.ensures c.requires.ready.0 c.requires.ready.1.0 c.requires.ready.1.1 c.requires.walked).fits
-
-pub overflow_add-result : goal.overflow_add-result
-overflow_add-result c =
-    let a = met c.args.v c.args.q c.args.r c.args.n _ _ _ _ _ _ c.side-s.ensures c.step-a.ensures c.requires.ready.0 c.requires.ready.1.0 c.requires.ready.1.1 c.requires.walked in
-    omega (arith, a.small, a.few, a.steps)
 
 pub returns-then-kinds-p-eq-DATA : goal.returns-then-kinds-p-eq-DATA
 returns-then-kinds-p-eq-DATA c =

@@ -1,5 +1,5 @@
 -- `scan::pack` meets its contract. The loop's invariant: the first q codewords and flags stand.
-use mathlib.Core.Path.{◌≡◌, refl, sym, ◌∙◌}
+use mathlib.Core.Path.{◌≡◌, refl, ◌∙◌}
 use Prim.Native.Nat.{ℕ}
 use native.Mathlib.Omega.{arith}
 use lib.ListN.{length, length-set}
@@ -14,12 +14,6 @@ pub loop-q-init : goal.loop-q-init
 unfolding build
 loop-q-init c = (search rules, refl, c.requires.1.1.1, refl, refl)
 
-pub overflow_mul-q : goal.overflow_mul-q
-overflow_mul-q c = omega (arith, c.requires.1.0)
-
-pub eight-c-requires : goal.eight-c-requires
-eight-c-requires c = (c.requires.0, omega (arith, c.requires.1.1.0))
-
 pub loop-q-preserved : goal.loop-q-preserved
 unfolding codeword flag eight
 loop-q-preserved c = let l = c.loop-q in
@@ -30,12 +24,6 @@ loop-q-preserved c = let l = c.loop-q in
       build_put (codeword bs) l.words l.q _ l.invariant.3 (search rules) c.eight-c.ensures.value,
       build_put (flag bs) l.flags l.q _ l.invariant.4 (search rules) c.eight-c.ensures.flag,
     )
-
-pub shape_of-words : goal.shape_of-words
-shape_of-words c = c.loop-q.invariant.1
-
-pub shape_of-flags : goal.shape_of-flags
-shape_of-flags c = c.loop-q.invariant.2 ∙ sym c.requires.1.1.1
 
 pub returns : goal.returns
 returns c = let l = c.loop-q in

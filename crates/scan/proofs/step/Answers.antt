@@ -30,20 +30,17 @@ rows : (s q r row : ℕ) → Row s q r row → r < 2 * s → row < s
 rows s q r row (inl w) h = omega (arith, w.1)
 rows s q r row (inr w) h = omega (arith, w.1)
 
-pub overflow_sub-result : goal.overflow_sub-result
-overflow_sub-result c =
-    elim c.if-c-le6.branch [ then-c-le6 w ↦ omega arith | else-c-le6 w ↦ omega arith ]
-
 pub returns : goal.returns
 returns c =
     let s : ℕ = c.args.s in
     let q : ℕ = c.args.q in
     let r : ℕ = c.args.r in
-    let right : Right s q c.if-c-le6.right =
-    elim c.if-c-le6.branch [ then-c-le6 w ↦ inl (omega arith, w.right-is) | else-c-le6 w ↦ inr (omega arith, w.right-is) ] in
+    let j = c.if-c-le6 in
+    let right : Right s q j.right =
+    elim j.branch [ then-c-le6 w ↦ inl (omega arith, w.right-is) | else-c-le6 w ↦ inr (omega arith, w.right-is) ] in
     let row : Row s q r c.if-q-eq0.row =
     elim c.if-q-eq0.branch [ then-q-eq0 w ↦ inl (w.if-q-eq0.true, w.row-is) | else-q-eq0 w ↦ inr (w.if-q-eq0.false, w.row-is) ] in
-    let col = columns s q c.if-c-le6.right right c.requires.1.0 in
+    let col = columns s q j.right right c.requires.1.0 in
     record {
       row_inside = rows s q r c.if-q-eq0.row row c.requires.1.1;
       column_inside = omega (arith, col);

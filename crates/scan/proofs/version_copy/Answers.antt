@@ -1,7 +1,6 @@
 -- `scan::version_copy` meets its contract. The loop's invariant: the bits from b up are read.
 use Prim.Native.Nat.{◌-◌}
 use native.Mathlib.Omega.{arith}
-use lib.Arith.{le-zero}
 use borrow.Author.Rules.{rules}
 use Rattle.modules.specs.Modules.{version_places}
 use Rattle.modules.proofs.Geometry.{word_places}
@@ -10,9 +9,6 @@ use Rattle.scan.proofs.version_copy.Goals as goal
 
 pub loop-b-init : goal.loop-b-init
 loop-b-init c = (search rules, copy_none c.args.m.now (version_places c.args.v c.args.copy) 18 (omega (arith, version_length c.args.v c.args.copy c.requires.0)))
-
-pub version_place-p-requires : goal.version_place-p-requires
-version_place-p-requires c = (c.requires.0, (c.requires.1.0, (c.requires.1.1.0, search rules)))
 
 pub bounds-m-p : goal.bounds-m-p
 bounds-m-p c = let l = c.loop-b in
@@ -28,6 +24,3 @@ loop-b-preserved c = let l = c.loop-b in (
   copy_more c.args.m.now (version_places c.args.v c.args.copy) l.b c.version_place-p.result l.read c.below-read.result (search rules)
       (omega (arith, version_length c.args.v c.args.copy c.requires.0)) l.invariant.1 c.version_place-p.ensures c.below-read.ensures,
 )
-
-pub returns : goal.returns
-returns c = rw (le-zero c.loop-b-test.false) at c.loop-b.invariant.1

@@ -1,6 +1,6 @@
 -- `text::print_reading` meets its contract, piece by piece: after each call one piece more of the output is written.
 use Rattle.text.specs.Text.{text, reading_text}
-use Rattle.text.proofs.Pasting.{begin, room_piece, put, end, printed}
+use Rattle.text.proofs.Pasting.{begin, room_piece, room_byte, put, end, printed}
 use Rattle.text.proofs.Length.{reading_room}
 use Rattle.text.proofs.print_reading.Goals as goal
 
@@ -22,7 +22,7 @@ put_bytes-ended-requires c = room_piece (reading_room _ _ _ _ _ _ _ _ c.requires
 
 pub put_byte-requires : goal.put_byte-requires
 unfolding text reading_text
-put_byte-requires c = room_piece (reading_room _ _ _ _ _ _ _ _ c.requires.1.1.0 c.requires.1.1.1.0 c.requires.1.1.1.1) (put (put (put (put (begin _ _ _) c.put_first_line-first.ensures) c.put_second_line-second.ensures) c.put_segments-third.ensures) c.put_bytes-ended.ensures)
+put_byte-requires c = room_byte (reading_room _ _ _ _ _ _ _ _ c.requires.1.1.0 c.requires.1.1.1.0 c.requires.1.1.1.1) (put (put (put (put (begin _ _ _) c.put_first_line-first.ensures) c.put_second_line-second.ensures) c.put_segments-third.ensures) c.put_bytes-ended.ensures)
 
 pub returns : goal.returns
 unfolding text reading_text

@@ -1,6 +1,6 @@
 -- `text::print_refusal` meets its contract, piece by piece.
 use Rattle.text.specs.Text.{text, refusal_text}
-use Rattle.text.proofs.Pasting.{begin, room_piece, put, end, printed}
+use Rattle.text.proofs.Pasting.{begin, room_piece, room_byte, put, end, printed}
 use Rattle.text.proofs.Length.{refusal_room}
 use Rattle.text.proofs.print_refusal.Goals as goal
 
@@ -10,7 +10,7 @@ put_field-numbered-requires c = room_piece (refusal_room _ _ c.requires) (begin 
 
 pub put_byte-requires : goal.put_byte-requires
 unfolding text refusal_text
-put_byte-requires c = room_piece (refusal_room _ _ c.requires) (put (begin _ _ _) c.put_field-numbered.ensures)
+put_byte-requires c = room_byte (refusal_room _ _ c.requires) (put (begin _ _ _) c.put_field-numbered.ensures)
 
 pub returns : goal.returns
 unfolding text refusal_text

@@ -1,6 +1,6 @@
 -- `text::put_segment` meets its contract, piece by piece: after each call one piece more of the segment's text is written.
 use Rattle.text.specs.Text.{segment_text}
-use Rattle.text.proofs.Pasting.{begin, room_piece, put, end}
+use Rattle.text.proofs.Pasting.{begin, room_piece, room_byte, put, end}
 use Rattle.text.proofs.put_segment.Goals as goal
 
 pub put_segment_line-lined-requires : goal.put_segment_line-lined-requires
@@ -13,7 +13,7 @@ put_hex-hexed-requires c = room_piece c.requires (put (begin _ _ _) c.put_segmen
 
 pub put_byte-requires : goal.put_byte-requires
 unfolding segment_text
-put_byte-requires c = room_piece c.requires (put (put (begin _ _ _) c.put_segment_line-lined.ensures) c.put_hex-hexed.ensures)
+put_byte-requires c = room_byte c.requires (put (put (begin _ _ _) c.put_segment_line-lined.ensures) c.put_hex-hexed.ensures)
 
 pub returns : goal.returns
 unfolding segment_text

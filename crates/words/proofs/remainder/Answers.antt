@@ -29,11 +29,6 @@ unfolding reduced
 turn k g zero n h = absurd (not-suc-le-zero h)
 turn k g (suc i) n h = rw (sub-one (suc i))
 
-pub overflow_mul-rest : goal.overflow_mul-rest
-overflow_mul-rest c = let l = c.loop-i in
-    rw (mod-eq_of_lt (shifted c.args.g (l.i - 1) c.requires.1.0 (omega arith)))
-    (record { fits = taken (l.rest / 2 ^ (c.args.k + (l.i - 1))) c.args.g (l.i - 1) c.requires.1.0 (omega arith) })
-
 pub loop-i-preserved : goal.loop-i-preserved
 loop-i-preserved c = let l = c.loop-i in
     rw (mod-eq_of_lt (shifted c.args.g (l.i - 1) c.requires.1.0 (omega arith))) (

@@ -41,8 +41,7 @@ returns-then-not-lawful_characters c =
     let asked = request a.payload.now a.list.now a.level a.version a.mask in
     let one = sym c.in_range.ensures ∙ c.if-not-in_range.false in
     let two = sym c.lawful_list.ensures ∙ c.if-not-lawful_list.false in
-    let three = sym c.counts_match.ensures ∙ c.if-not-counts_match.false in
-    failed _ _ _ 3 refl refl (refused_4 asked _ one two three (sym c.lawful_characters.ensures ∙ c.if-not-lawful_characters.true))
+    failed _ _ _ 3 refl refl (refused_4 asked _ one two (sym c.counts_match.ensures ∙ c.if-not-counts_match.false) (sym c.lawful_characters.ensures ∙ c.if-not-lawful_characters.true))
 
 pub version_taken-v-requires : goal.version_taken-v-requires
 version_taken-v-requires c =

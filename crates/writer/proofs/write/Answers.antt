@@ -2,75 +2,66 @@
 use mathlib.Core.Path.{◌≡◌, refl, sym, ◌∙◌}
 use Prim.Native.Nat.{ℕ, ◌<◌}
 use native.Mathlib.Omega.{arith}
-use lib.ListN.{length}
 use Rattle.tables.specs.Tables.{Lawful}
+use Rattle.writer.specs.declared.Checked.{Checked}
+use Rattle.writer.specs.Answer.{Checks}
 use Rattle.writer.specs.Writer.{Request, request, taken, refusal, codewords}
 use Rattle.writer.proofs.Answers.{accepted_lawful, accepted_room, accepted_mask, version_beside_lem, writes_refusal, writes_drawing}
 use Rattle.writer.proofs.Drawn.{taken_lawful, chosen_small}
 use Rattle.writer.proofs.write.Goals as goal
 
+-- Where the checks have passed, the version is the one that is taken,
+-- and it is lawful.
+pub record Passed (r : Request) (out v : ℕ) : Type 0 where
+  pub none : refusal r out ≡ 0
+  pub version : v ≡ taken r.level r.version r.list
+  pub lawful : Lawful v r.level
+
+passed : (r : Request) (out : ℕ) (k : Checked) → Checks r out k → k.refusal ≡ 0 → Passed r out k.version
+passed r out k h e =
+    let none : refusal r out ≡ 0 = sym h.number ∙ e in
+    let version = version_beside_lem r out k h none in
+    record { none = none; version = version; lawful = rw version (taken_lawful r out none) }
+
 pub returns-then-refusal-ne0 : goal.returns-then-refusal-ne0
 returns-then-refusal-ne0 c = writes_refusal _ _ _ c.check-checked.ensures.number c.if-refusal-ne0.true
 
--- where the checks have passed
-lawful_at : (r : Request) (out v : ℕ) → refusal r out ≡ 0 → v ≡ taken r.level r.version r.list → Lawful v r.level
-lawful_at r out v passed version = rw version (taken_lawful r out passed)
-
 pub draw_at-drawn-requires : goal.draw_at-drawn-requires
 draw_at-drawn-requires c =
-    let a = c.args in
-    let asked = request a.payload.now a.list.now a.level a.version a.mask in
-    let passed : refusal asked (length a.out.now) ≡ 0 = sym c.check-checked.ensures.number ∙ c.if-refusal-ne0.false in
-    let version = version_beside_lem asked _ _ c.check-checked.ensures passed in (
-      lawful_at asked _ c.check-checked.result.version passed version,
+    let p = passed (request c.args.payload.now c.args.list.now c.args.level c.args.version c.args.mask) _ _ c.check-checked.ensures (omega arith) in (
+      p.lawful,
       (
-        rw version (accepted_lawful asked _ passed (λ i h. omega (arith, c.type_inv.payload i))),
+        rw p.version (accepted_lawful _ _ p.none (λ i h. omega (arith, c.type_inv.payload i))),
         (
-          accepted_mask asked _ passed,
-          record { held_long = refl; words_long = refl; base_long = refl; out_long = rw version (accepted_room asked _ passed) },
+          accepted_mask _ _ p.none,
+          record { held_long = refl; words_long = refl; base_long = refl; out_long = rw p.version (accepted_room _ _ p.none) },
         ),
       ),
     )
 
 pub overflow_cast-result : goal.overflow_cast-result
 overflow_cast-result c =
-    let a = c.args in
-    let asked = request a.payload.now a.list.now a.level a.version a.mask in
-    let passed : refusal asked (length a.out.now) ≡ 0 = sym c.check-checked.ensures.number ∙ c.if-refusal-ne0.false in
-    let version = version_beside_lem asked _ _ c.check-checked.ensures passed in
-    let lawful = lawful_at asked _ c.check-checked.result.version passed version in
-    omega (arith, lawful)
+    let p = passed (request c.args.payload.now c.args.list.now c.args.level c.args.version c.args.mask) _ _ c.check-checked.ensures (omega arith) in
+    omega (arith, p.lawful)
 
 pub overflow_cast-result-2 : goal.overflow_cast-result-2
 overflow_cast-result-2 c =
-    let a = c.args in
-    let asked = request a.payload.now a.list.now a.level a.version a.mask in
-    let passed : refusal asked (length a.out.now) ≡ 0 = sym c.check-checked.ensures.number ∙ c.if-refusal-ne0.false in
-    let small : c.draw_at-drawn.result < 8 = rw c.draw_at-drawn.ensures.choice (chosen_small _ _ _ _ (accepted_mask asked _ passed)) in
+    let p = passed (request c.args.payload.now c.args.list.now c.args.level c.args.version c.args.mask) _ _ c.check-checked.ensures (omega arith) in
+    let small : c.draw_at-drawn.result < 8 = rw c.draw_at-drawn.ensures.choice (chosen_small _ _ _ _ (accepted_mask _ _ p.none)) in
     omega arith
 
 pub side-requires : goal.side-requires
 side-requires c =
-    let a = c.args in
-    let asked = request a.payload.now a.list.now a.level a.version a.mask in
-    let passed : refusal asked (length a.out.now) ≡ 0 = sym c.check-checked.ensures.number ∙ c.if-refusal-ne0.false in
-    let version = version_beside_lem asked _ _ c.check-checked.ensures passed in
-    (lawful_at asked _ c.check-checked.result.version passed version).most
+    let p = passed (request c.args.payload.now c.args.list.now c.args.level c.args.version c.args.mask) _ _ c.check-checked.ensures (omega arith) in
+    p.lawful.most
 
 pub overflow_cast-result-3 : goal.overflow_cast-result-3
 overflow_cast-result-3 c =
-    let a = c.args in
-    let asked = request a.payload.now a.list.now a.level a.version a.mask in
-    let passed : refusal asked (length a.out.now) ≡ 0 = sym c.check-checked.ensures.number ∙ c.if-refusal-ne0.false in
-    let version = version_beside_lem asked _ _ c.check-checked.ensures passed in
-    let lawful = lawful_at asked _ c.check-checked.result.version passed version in
-    omega (arith, c.side.ensures, lawful)
+    let p = passed (request c.args.payload.now c.args.list.now c.args.level c.args.version c.args.mask) _ _ c.check-checked.ensures (omega arith) in
+    omega (arith, c.side.ensures, p.lawful)
 
 pub returns : goal.returns
 unfolding codewords
 returns c =
-    let a = c.args in
-    let asked = request a.payload.now a.list.now a.level a.version a.mask in
-    let passed : refusal asked (length a.out.now) ≡ 0 = sym c.check-checked.ensures.number ∙ c.if-refusal-ne0.false in
-    let version = version_beside_lem asked _ _ c.check-checked.ensures passed in
-    writes_drawing asked _ _ _ _ _ passed version c.draw_at-drawn.ensures c.side.ensures
+    let p = passed (request c.args.payload.now c.args.list.now c.args.level c.args.version c.args.mask) _ _ c.check-checked.ensures (omega arith) in
+    writes_drawing _ _ _ _ _ _ p.none p.version c.draw_at-drawn.ensures c.side.ensures
