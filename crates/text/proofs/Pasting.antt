@@ -1,6 +1,6 @@
 -- Texts pasted one after the other are pasted as one text, and a buffer keeps its length.
 --     stored, then      one byte; a text and the text behind it
---     room-first, room_next   where there is room for both there is room for the first, and then for the second
+--     room_first, room_next   where there is room for both there is room for the first, and then for the second
 --     Progress          a loop on its way through a text: what is written, and what is left
 --     printed           from place 0 on: the text, and behind it the buffer as it was
 use mathlib.Core.Path.{◌≡◌, refl, sym, ap, subst, ◌∙◌}
