@@ -1,7 +1,7 @@
 -- A loop that fills a list from the front, one store a turn: what is written is `build f i`.
---     build-more    a store of f i at i takes the first i entries to the first i + 1
---     build-all     a list of n entries whose first n are built is built
---     build-get     an entry of what is built
+--     build_more    a store of f i at i takes the first i entries to the first i + 1
+--     build_all     a list of n entries whose first n are built is built
+--     build_get     an entry of what is built
 use mathlib.Core.Path.{◌≡◌, refl, sym, ap, ◌∙◌}
 use mathlib.Core.Logic.{⊎_elim}
 use mathlib.Core.List.{List, [], ◌∷◌, ◌++◌}

@@ -1,10 +1,10 @@
 -- What a walk leaves at each place.
 --     walked_none      no turn leaves the list
 --     walked_more      one turn more
---     walked-length    the list keeps its length
---     walked-made      and so does a list that n turns made
---     walked-never     a place that no turn meets is as it was
---     walked-met       a place that a turn meets, and no later turn, holds that turn's value
+--     walked_length    the list keeps its length
+--     walked_made      and so does a list that n turns made
+--     walked_never     a place that no turn meets is as it was
+--     walked_met       a place that a turn meets, and no later turn, holds that turn's value
 use mathlib.Core.Path.{◌≡◌, refl, sym, subst, ap, ◌∙◌}
 use mathlib.Core.Logic.{⊎_elim}
 use mathlib.Core.List.{List}

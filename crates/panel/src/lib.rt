@@ -1,4 +1,4 @@
-// The entries for the panel's firmware, called from C as include/kqs.h says: numbers and slices in, a struct by value out. Each answers every input.
+// The entries for the panel's firmware, as include/kqs.h says: numbers and slices in, a struct by value out. Each answers every input. `panel_c` exports them to C.
 #![tactic(auto)]
 
 ghost use Rattle.std.specs.Prelude.{◌≡◌, ◌<◌, ◌^◌, length};
@@ -54,8 +54,7 @@ fn low(x: usize) -> u32
 }
 
 // Draws the symbol of a message into the first side · side bytes of `out`.
-#[unsafe(no_mangle)]
-pub extern "C" fn kqs_write(
+pub fn kqs_write(
     payload: &[u8],
     list: &[u16],
     level: u32,
@@ -82,8 +81,7 @@ pub extern "C" fn kqs_write(
 }
 
 // Reads a matrix; its payload and its segments at the fronts of the buffers.
-#[unsafe(no_mangle)]
-pub extern "C" fn kqs_read(matrix: &[u8], payload: &mut [u8], list: &mut [u16]) -> KqsReading
+pub fn kqs_read(matrix: &[u8], payload: &mut [u8], list: &mut [u16]) -> KqsReading
     ensures { ReadAnswers matrix.now payload.old list.old result payload.new list.new }
 {
     match reader::read(matrix, payload, list) {
@@ -111,8 +109,7 @@ pub extern "C" fn kqs_read(matrix: &[u8], payload: &mut [u8], list: &mut [u16]) 
 }
 
 // Where the k-th segment, counted from 0, stands in the payload.
-#[unsafe(no_mangle)]
-pub extern "C" fn kqs_part(payload: &[u8], list: &[u16], k: usize) -> Span
+pub fn kqs_part(payload: &[u8], list: &[u16], k: usize) -> Span
     ensures { result ≡ span_of list.now (length payload.now) k }
 {
     part::span_of(list, payload.len(), k)

@@ -1,6 +1,6 @@
 -- The lines of a matrix are its rows and its columns.
---     rows-lines       the rows are the lines that start at 0, s, 2·s, .. with stride 1
---     columns-lines    the columns are the lines that start at 0, 1, 2, .. with stride s
+--     rows_lines       the rows are the lines that start at 0, s, 2·s, .. with stride 1
+--     columns_lines    the columns are the lines that start at 0, 1, 2, .. with stride s
 use mathlib.Core.Path.{◌≡◌, refl, sym, ap, ap₂, ◌∙◌}
 use mathlib.Core.List.{List, ◌∷◌, map}
 use Prim.Native.Nat.{ℕ, zero, suc, ◌+◌, ◌-◌, ◌*◌, ◌<◌, ◌≤◌}

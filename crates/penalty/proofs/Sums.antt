@@ -1,9 +1,9 @@
 -- Sums cut, joined and turned.
 --     sum_first    the first of a sum by itself
---     sum-walk     what a walk with steps of d adds is a sum
---     sum-split    a sum in two parts; tally-split, the same of a tally
---     sum-plus     a sum of sums; sum-times, of multiples
---     sum-grid     what stands in s columns of t rows, column by column, stands in t · s places, one after the other
+--     sum_walk     what a walk with steps of d adds is a sum
+--     sum_split    a sum in two parts; tally_split, the same of a tally
+--     sum_plus     a sum of sums; sum_times, of multiples
+--     sum_grid     what stands in s columns of t rows, column by column, stands in t · s places, one after the other
 use mathlib.Core.Path.{◌≡◌, refl, sym, ap, ap₂, ◌∙◌}
 use mathlib.Core.Bool.{Bool}
 use Prim.Native.Nat.{ℕ, zero, suc, ◌+◌, ◌*◌}
