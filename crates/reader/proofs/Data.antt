@@ -1,6 +1,5 @@
 -- From the codewords as they were received to the data codewords of the corrected blocks: gathered block by block, corrected, and taken in order.
-use mathlib.Core.Path.{◌≡◌, refl, sym, ap, subst, subst₂, ◌∙◌}
-use mathlib.Core.Logic.{inl, inr}
+use mathlib.Core.Path.{◌≡◌, ap, ◌∙◌}
 use mathlib.Core.List.{List, ◌++◌, map}
 use Prim.Native.Nat.{ℕ, ◌≤◌, ◌<◌}
 use native.Mathlib.Omega.{arith}
@@ -8,9 +7,8 @@ use lib.ListN.{length, get_or, take, length-append}
 use lib.Seq.{take_at, length-take-le}
 use Rattle.basics.specs.Lists.{up_to}
 use Rattle.basics.proofs.Lists.{map_up_to_same, get_d_map_up_to, length_map_up_to}
-use Rattle.tables.specs.Tables.{Lawful, total, data_count, block_count, block_data, block_start, check_count, block_length, room}
+use Rattle.tables.specs.Tables.{Lawful, total, data_count, block_count, block_data, block_start, block_length}
 use Rattle.tables.proofs.Rules.{data_sum}
-use Rattle.code.specs.Code.{Stands}
 use Rattle.blocks.specs.Blocks.{gathered, gathered_all, block_of, data_of}
 use Rattle.blocks.proofs.Cuts.{length_joined}
 use Rattle.blocks.proofs.Order.{sent_once}
@@ -19,11 +17,8 @@ use Rattle.parse.specs.Parse.{most_data}
 use Rattle.parse.proofs.Encode.{data_most}
 use Rattle.scan.specs.Received.{received, codeword, flag, codewords, flags}
 use Rattle.reader.specs.declared.Sums.{Sums}
-use Rattle.reader.specs.declared.Mended.{Mended}
-use Rattle.reader.specs.declared.Mended.TheVariants.{Within, Beyond}
-use Rattle.reader.specs.Reader.{block_word, block_flags, BlockStands}
-use Rattle.reader.specs.Steps.{Collected, Standing, wrong_in, lost_in, AllMended, BlocksMended, WithinBounds, DataMended}
-use Rattle.reader.proofs.Passing.{step_passed, step_refused}
+use Rattle.reader.specs.Reader.{block_word, block_flags}
+use Rattle.reader.specs.Steps.{Collected, WithinBounds}
 
 -- as many codewords and flags as the version has
 pub codewords_long : (v mask : ℕ) (m : List ℕ) → length (codewords v mask m) ≡ total v
@@ -60,40 +55,6 @@ module _ (v level : ℕ) (lawful : Lawful v level) where
         words_of = λ b h. rw (hb, hw) (gathered_block (codeword (received v mask m)) b h);
         flags_of = λ b h. rw (hl, hm) (gathered_block (flag (received v mask m)) b h);
       }
-
-module _ (v level : ℕ) (bs blocks lost mended held : List ℕ) (c : Collected v level bs blocks lost) (r : Mended) (done : BlocksMended v level blocks lost mended r) where
-  forth : (b : ℕ) → b < block_count v level → (d : List ℕ) (t e : ℕ) → Standing v level blocks lost b d t e → BlockStands v level bs b d t e
-  forth b h d t e = subst₂ (λ (x y : List ℕ). Stands (check_count v level) (room v level) x y d t e) (c.words_of b h) (c.flags_of b h)
-
-  back : (b : ℕ) → b < block_count v level → (d : List ℕ) (t e : ℕ) → BlockStands v level bs b d t e → Standing v level blocks lost b d t e
-  back b h d t e = subst₂ (λ (x y : List ℕ). Stands (check_count v level) (room v level) x y d t e) (sym (c.words_of b h)) (sym (c.flags_of b h))
-
-  all_mended : (s : Sums) → r ≡ Within s → AllMended v level blocks lost mended s
-  all_mended s e = step_passed 11 (subst (BlocksMended v level blocks lost mended) e done)
-
-  pub mended_long : (s : Sums) → r ≡ Within s → length mended ≡ total v
-  mended_long s e = (all_mended s e).long ∙ c.words_long
-
-  pub data_within : (s : Sums) → r ≡ Within s → held ≡ data_of v level (block_of v level mended) → DataMended v level bs held (Within s)
-  data_within s e d =
-      let a = all_mended s e in
-      inr (
-        refl,
-        record {
-          blocks = block_of v level mended;
-          ts = wrong_in v level blocks lost mended;
-          es = lost_in v level lost;
-          stand = λ b h. forth b h _ _ _ (a.stand b h);
-          data_is = d;
-          differing_sum = a.differing_sum;
-          unreadable_sum = a.unreadable_sum;
-        },
-      )
-
-  pub data_beyond : r ≡ Beyond → DataMended v level bs held Beyond
-  data_beyond e =
-      let n = step_refused 11 (subst (BlocksMended v level blocks lost mended) e done) in
-      inl (refl, (n.0, n.1, λ d t e s. n.2 d t e (back n.0 n.1 d t e s)))
 
 -- as many data codewords as the version and level has
 pub data_length : (v level : ℕ) (bs : List ℕ) (blocks : ℕ → List ℕ) → Lawful v level

@@ -7,7 +7,7 @@ use Prim.Native.Nat.{ℕ, suc, ◌+◌, ◌-◌, ◌*◌, ◌≤◌, ◌<◌}
 use native.Mathlib.Nat.{eq-or-lt_of_le, le_of_suc-le-suc, add-sub_cancel_left}
 use native.Mathlib.Numerals.{add-one}
 use native.Mathlib.Omega.{arith}
-use borrow.Rule.Slice.PartMut.{put_mid, same_len_mid}
+use borrow.Rule.Slice.PartMut.{put_mid}
 use lib.ListN.{length, take, drop, length-append, length-drop, take-append-drop}
 use lib.Seq.{take_at, drop_at, drop-drop, length-take-le, take-append-le, drop-append-le, drop-append-add}
 use Rattle.basics.specs.Sums.{sum}
@@ -236,14 +236,8 @@ module _ (turn : Turn) where
     )
 
   module _ (q : verdict ≡ NoneStands) where
-    kept : ys ≡ take (a + long - a) (drop a w)
-    kept = (subst (Corrected n bound (take (a + long - a) (drop a w)) (take (a + long - a) (drop a f)) ys) q given).0
-
     pub turn_none : (d : List ℕ) (x y : ℕ) → Standing v level w_0 f b d x y → ⊥
     turn_none d x y z =
         (subst (Corrected (check_count v level) (room v level) (take (block_length v level b) (drop a w)) (take (block_length v level b) (drop a f)) ys) q plain).1 d x y
         (subst₂ (λ (p q : List ℕ). Stands (check_count v level) (room v level) p q d x y)
         (sym (part_of v level a b w mending.start ∙ mending.rest b (omega arith))) (sym (part_of v level a b f mending.start)) z)
-
-    pub turn_long : length (put_mid a (a + long - a) w ys) ≡ length w_0
-    turn_long = same_len_mid a (a + long - a) w ys (ap length kept) ∙ mending.long

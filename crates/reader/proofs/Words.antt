@@ -17,11 +17,10 @@ use Rattle.scan.specs.Received.{copied, readable}
 use Rattle.scan.specs.Scan.{CopyRead}
 use Rattle.scan.proofs.Copies.{format_length, version_length, readable_lt}
 use Rattle.reader.specs.declared.Meta.{Meta}
-use Rattle.reader.specs.declared.Copies.TheVariants.{Agreeing, Other}
+use Rattle.reader.specs.declared.Copies.TheVariants.{Agreeing}
 use Rattle.reader.specs.declared.Format.TheVariants.{NoWord as NotFormatted}
-use Rattle.reader.specs.Reader.{OtherVersion, FormatStands, NoFormat}
+use Rattle.reader.specs.Reader.{FormatStands, NoFormat}
 use Rattle.reader.specs.Steps.{VersionCopy, FormatRead, FormatsRead}
-use Rattle.reader.proofs.Passing.{step_passed}
 
 -- ---- a copy as it was read
 
@@ -31,18 +30,9 @@ version_asked m v copy c h r = subst₂ (λ (x n : ℕ). x < 2 ^ n) (sym r.can) 
 pub format_asked : (m : List ℕ) (v copy : ℕ) (c : Copy) → CopyRead m (format_places v copy) c → c.readable < 2 ^ 15
 format_asked m v copy c r = subst₂ (λ (x n : ℕ). x < 2 ^ n) (sym r.can) (format_length v copy) (readable_lt m (format_places v copy))
 
-pub version_given : (m places : List ℕ) (c : Copy) (f : Found) → CopyRead m places c → VersionFound c.bits c.readable f → VersionFound (copied m places) (readable m places) f
-version_given m places c f r = subst₂ (λ (x y : ℕ). VersionFound x y f) r.bits r.can
-
-pub format_given : (m places : List ℕ) (c : Copy) (f : Found) → CopyRead m places c → FormatFound c.bits c.readable f → FormatFound (copied m places) (readable m places) f
-format_given m places c f r = subst₂ (λ (x y : ℕ). FormatFound x y f) r.bits r.can
-
 -- ---- version copies
 
 module _ (m : List ℕ) (v copy : ℕ) (drawn : 7 ≤ v) (which : copy < 2) (f : Found) (found : VersionFound (copied m (version_places v copy)) (readable m (version_places v copy)) f) where
-  pub copy_none : f ≡ NoWord → VersionCopy v m copy Agreeing
-  copy_none e = inr (refl, λ x n s. subst (VersionFound (copied m (version_places v copy)) (readable m (version_places v copy))) e found x s.near)
-
   near : (x : ℕ) → f ≡ Word x → VersionNear (copied m (version_places v copy)) (readable m (version_places v copy)) x
   near x e = subst (VersionFound (copied m (version_places v copy)) (readable m (version_places v copy))) e found
 
@@ -50,14 +40,6 @@ module _ (m : List ℕ) (v copy : ℕ) (drawn : 7 ≤ v) (which : copy < 2) (f :
   copy_same x w e p q =
       let k = near x e in
       inr (refl, λ y n s. n (version_only _ _ y x s.near.least s.near.most k.least k.most s.near.near k.near ∙ sym p ∙ q))
-
-  pub copy_other : (x w : ℕ) → f ≡ Word x → w ≡ x → (w ≡ v → ⊥) → VersionCopy v m copy Other
-  copy_other x w e p q = inl (refl, (x, (λ z. q (p ∙ z)), record { which = which; drawn = drawn; near = near x e }))
-
-pub versions_agree : (m : List ℕ) (v : ℕ) → VersionCopy v m 0 Agreeing → VersionCopy v m 1 Agreeing → OtherVersion v m → ⊥
-versions_agree m v a b (zero, x, n, s) = step_passed 8 a x n s
-versions_agree m v a b (suc zero, x, n, s) = step_passed 8 b x n s
-versions_agree m v a b (suc (suc k), x, n, s) = let h = s.which in omega arith
 
 -- ---- format copies
 
@@ -76,10 +58,6 @@ near_of m v copy l k s = record { lawful = format_bits_lt l k s.levels s.masks; 
 
 only_of : (m : List ℕ) (v copy l k bits : ℕ) → FormatNear (copied m (format_places v copy)) (readable m (format_places v copy)) bits → FormatStands v m copy l k → format_bits l k ≡ bits
 only_of m v copy l k bits n s = format_only _ _ _ _ (format_bits_lt l k s.levels s.masks) n.lawful s.near n.near
-
--- what a copy stands for is five bits
-pub found_lawful : (copy readable : ℕ) (f : Found) → FormatFound copy readable f → (x : ℕ) → f ≡ Word x → x < 32
-found_lawful copy readable f found x e = (subst (FormatFound copy readable) e found).lawful
 
 module _ (m : List ℕ) (v : ℕ) (f g : Found)
     (first : FormatFound (copied m (format_places v 0)) (readable m (format_places v 0)) f)
