@@ -35,9 +35,9 @@ out_of_range : (t : Bool) → ◌≡◌ {A = ℕ} 15 (cond t 0 15) → t ≡ fal
 out_of_range true e = absurd (omega arith)
 out_of_range false e = refl
 
-in_range_lem : (t : Bool) → ◌≡◌ {A = ℕ} 0 (cond t 0 15) → t ≡ true
-in_range_lem true e = refl
-in_range_lem false e = absurd (omega arith)
+within_range : (t : Bool) → ◌≡◌ {A = ℕ} 0 (cond t 0 15) → t ≡ true
+within_range true e = refl
+within_range false e = absurd (omega arith)
 
 module _ (codewords : List ℕ) (v : ℕ) (p : Progress) (payload list : List ℕ) (a : StepAsks codewords v p payload list) where
   pub few_codewords : length codewords ≤ 274
@@ -95,7 +95,7 @@ module _ (codewords : List ℕ) (v : ℕ) (p : Progress) (payload list : List �
         fronts =
             whole_segment v mode count (drop p.cursor.at (byte_bits codewords))
             (fits_whole v mode count (drop p.cursor.at (byte_bits codewords)) s
-            (rw the_body at (in_range_lem (groups_in_range mode count (drop b (byte_bits codewords))) (sym (ap reading_number o) ∙ d.refuses))));
+            (rw the_body at (within_range (groups_in_range mode count (drop b (byte_bits codewords))) (sym (ap reading_number o) ∙ d.refuses))));
         place = omega (arith, d.place next o, e);
         uses = refl;
         more = refl;
