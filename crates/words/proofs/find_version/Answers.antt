@@ -1,27 +1,24 @@
--- `words::find_version` meets its contract. The loop's invariant: the copy stands for no word that was passed.
-use lib.Count.{ones-le}
-use borrow.Author.Count.{below_more}
-use borrow.Author.Rules.{rules}
-use Rattle.words.specs.Words.{version_word}
-use Rattle.words.proofs.Distance.{is_near, not_near}
+-- `words::find_version` meets its contract.
+use Rattle.std.proofs.Common.{rules, tests, ◌<◌, ◌≤◌, ℕ, Option, Some, None, MatchOption}
+use Rattle.std.proofs.lemmas.Iterator.{first_from_Range}
+use Rattle.words.specs.Words.{version_word, Near}
+use Rattle.words.specs.Found.{VersionFound}
 use Rattle.words.proofs.find_version.Goals as goal
 
-pub overflow_sub-missing : goal.overflow_sub-missing
-overflow_sub-missing c = ones-le 18 c.args.readable c.requires
+abbrev Stands : (copy readable x : ℕ) → Type 0
+Stands copy readable x = Near 18 copy readable (version_word x)
 
-pub returns-then-apart-missing-le-BOUND : goal.returns-then-apart-missing-le-BOUND
-returns-then-apart-missing-le-BOUND c =
-    let distance = rw c.version_word.ensures at c.apart.ensures.0 in
-    let n =
-    is_near 18 c.args.copy c.args.readable (version_word c.loop-x.x) c.apart.result c.requires distance c.if-apart-missing-le-BOUND.true in
-    record { least = search rules; most = search rules; near = n }
+found : (copy readable : ℕ) (r : Option ℕ)
+    → MatchOption r ((x : ℕ) → 7 ≤ x → x < 41 → Stands copy readable x → ⊥) (λ x. (7 ≤ x) × (x < 41) × Stands copy readable x × ((y : ℕ) → 7 ≤ y → y < x → Stands copy readable y → ⊥))
+    → VersionFound copy readable r
+found copy readable None none = λ x n. none x n.least (search rules) n.near
+found copy readable (Some x) f = record { least = f.0; most = search rules; near = f.2 }
 
-pub loop-x-preserved : goal.loop-x-preserved
-loop-x-preserved c =
-    let l = c.loop-x in
-    let distance = rw c.version_word.ensures at c.apart.ensures.0 in (
-      search rules,
-      search rules,
-      below_more _ _ l.invariant.2
-          (λ n. not_near 18 c.args.copy c.args.readable (version_word l.x) c.apart.result c.requires distance c.if-apart-missing-le-BOUND.false n.near),
-    )
+pub returns : goal.returns
+returns c =
+    let copy = c.args.copy in
+    let readable = c.args.readable in
+    found copy readable c.find.result
+    (first_from_Range _ _ _ _ (Stands copy readable) (λ x. Stands copy readable x → ⊥) c.find.ensures.ran
+    (λ x q k. search (rules, tests))
+    (λ x q k. (search rules, search (rules, tests))))
