@@ -134,7 +134,7 @@ loop-b-preserved c =
           rw (add-one, suc-mul) (omega (arith, c.checks-n.ensures)),
           front_more v level codewords l.words words_0 c.copy.new.to l.b l.c c.checks-n.result l.invariant.1.1.1
               (front_ends v level lawful codewords long l.b l.c l.invariant.1.1.0)
-              (made_checks v level codewords _ c.remainder-made.result c.copy.new.to c.checks-n.result l.b c.checks-n.ensures held c.remainder-made.ensures.result_value c.copy.ensures),
+              (made_checks v level codewords _ c.remainder-made.result c.copy.new.to c.checks-n.result l.b c.checks-n.ensures held c.remainder-made.ensures.front c.copy.ensures),
         ),
       ),
     )
