@@ -6,3 +6,4 @@ pub mod Sums
 pub mod Test
 pub mod Walk
 pub mod Xor
+pub mod Made

@@ -15,9 +15,7 @@ use Rattle.code.specs.Code.{Codeword, Stands, syndromes_of, differing, unreadabl
 use Rattle.code.specs.Lanes.{lanes, padded}
 use Rattle.code.proofs.Bridge.{Bytes, syndromes_get, syndromes_zero}
 use Rattle.corrector.specs.Correct.{FirstNonzero, Proposed, Tested}
-use Rattle.corrector.specs.declared.Counts.{Counts}
-use Rattle.corrector.specs.declared.Correction.{Correction}
-use Rattle.corrector.specs.declared.Correction.TheVariants.{Stood, NoneStands}
+use Rattle.std.specs.Prelude.{None}
 use Rattle.corrector.proofs.Counting.{tally_most}
 
 module _ {n : ℕ} {c s : List ℕ} {r : ℕ} (few : n ≤ 30) (e : s ≡ padded lanes (syndromes_of n c)) (f : FirstNonzero s r) where
@@ -70,8 +68,5 @@ module _ (n room : ℕ) (w flags fixed : List ℕ) (small : room ≤ n) (short :
       ext_get_or 0 c (take (length w) fixed) (st.long ∙ sym (length-take-le (length w) fixed (omega arith)))
       (λ j l. sym (get_or-take (length w) fixed j 0 (omega (arith, st.long)) ∙ p room c t e small st j (omega (arith, st.long))))
 
-  pub none : (v : Correction) → v ≡ NoneStands → Tested n room w flags (take (length w) fixed) v → (c : List ℕ) (t e : ℕ) → Stands n room w flags c t e → ⊥
-  none v is failed c t e st = subst (λ v. Tested n room w flags (take (length w) fixed) v) is failed t e (subst (λ d. Stands n room w flags d t e) (is_proposed st) st)
-
-pub stood : (n room : ℕ) (w flags c : List ℕ) (v : Correction) (k : Counts) → v ≡ Stood k → Tested n room w flags c v → (out : List ℕ) → out ≡ c → Stands n room w flags out k.differing k.unreadable
-stood n room w flags c v k is passed out e = subst (λ d. Stands n room w flags d k.differing k.unreadable) (sym e) (subst (λ v. Tested n room w flags c v) is passed)
+  pub none : Tested n room w flags (take (length w) fixed) None → (c : List ℕ) (t e : ℕ) → Stands n room w flags c t e → ⊥
+  none failed c t e st = failed t e (subst (λ d. Stands n room w flags d t e) (is_proposed st) st)

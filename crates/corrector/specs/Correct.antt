@@ -1,7 +1,6 @@
 -- What the corrector answers.
-use Rattle.std.specs.Prelude.{◌≡◌, List, ℕ, zero, suc, ◌≤◌, ◌<◌, length, get_or}
-use Rattle.corrector.specs.declared.Correction.{Correction}
-use Rattle.corrector.specs.declared.Correction.TheVariants.{Stood, NoneStands}
+use Rattle.std.specs.Prelude.{◌≡◌, List, ℕ, zero, suc, ◌≤◌, ◌<◌, Option, Some, None, length, get_or}
+use Rattle.corrector.specs.declared.Counts.{Counts}
 use Rattle.code.specs.Code.{Stands, unreadable, syndromes_of}
 use Rattle.code.specs.Lanes.{lanes, padded}
 
@@ -25,23 +24,23 @@ pub record FirstNonzero (s : List ℕ) (r : ℕ) : Type 0 where
   pub here : r < 32 → get_or s r 0 ≡ 0 → ⊥
 
 -- the block stands for c with these counts, or with none
-abbrev pub Tested : (n room : ℕ) (word flags c : List ℕ) → Correction → Type 0
-Tested n room word flags c (Stood k) = Stands n room word flags c k.differing k.unreadable
-Tested n room word flags c NoneStands = (t e : ℕ) → Stands n room word flags c t e → ⊥
+abbrev pub Tested : (n room : ℕ) (word flags c : List ℕ) → Option Counts → Type 0
+Tested n room word flags c (Some k) = Stands n room word flags c k.differing k.unreadable
+Tested n room word flags c None = (t e : ℕ) → Stands n room word flags c t e → ⊥
 
 -- the paper's number for each case: 12, "a block has no codeword within its bound"; a codeword is no refusal, 0
-abbrev pub number_of : Correction → ℕ
-number_of (Stood k) = 0
-number_of NoneStands = 12
+abbrev pub number_of : Option Counts → ℕ
+number_of (Some k) = 0
+number_of None = 12
 
 -- and its values, t and e; "A refusal carries its number and zeros."
-abbrev pub differing_of : Correction → ℕ
-differing_of (Stood k) = k.differing
-differing_of NoneStands = 0
+abbrev pub differing_of : Option Counts → ℕ
+differing_of (Some k) = k.differing
+differing_of None = 0
 
-abbrev pub unreadable_of : Correction → ℕ
-unreadable_of (Stood k) = k.unreadable
-unreadable_of NoneStands = 0
+abbrev pub unreadable_of : Option Counts → ℕ
+unreadable_of (Some k) = k.unreadable
+unreadable_of None = 0
 
 -- what a number says with its values. 0: the word holds the codeword that the block stands for, with its t and e; a refusal: there is none, and the word
 -- is as it was
@@ -50,10 +49,10 @@ Says n room word flags exit zero t e = Stands n room word flags exit t e
 Says n room word flags exit (suc k) t e = (exit ≡ word) × ((c : List ℕ) (t e : ℕ) → Stands n room word flags c t e → ⊥)
 
 -- "the bound is 2t + e ≤ n at every version and level": the answer's number and values say what holds of the block
-abbrev pub Corrected : (n room : ℕ) (word flags exit : List ℕ) → Correction → Type 0
+abbrev pub Corrected : (n room : ℕ) (word flags exit : List ℕ) → Option Counts → Type 0
 Corrected n room word flags exit r = Says n room word flags exit (number_of r) (differing_of r) (unreadable_of r)
 
 -- no two different answers, nor two words, satisfy the promise of `correct`
 abbrev pub CorrectedOnly : Type 0
-CorrectedOnly = (n room : ℕ) (word flags exit exit₁ : List ℕ) (r r₁ : Correction) → room ≤ n → length word ≤ 255
+CorrectedOnly = (n room : ℕ) (word flags exit exit₁ : List ℕ) (r r₁ : Option Counts) → room ≤ n → length word ≤ 255
     → Corrected n room word flags exit r → Corrected n room word flags exit₁ r₁ → (r ≡ r₁) × (exit ≡ exit₁)

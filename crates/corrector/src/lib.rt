@@ -508,29 +508,20 @@ pub struct Counts {
     pub unreadable: usize,
 }
 
-// What a block stands for.
-#[derive(Clone, Copy)]
-pub enum Correction {
-    // a codeword, with these counts
-    Stood(Counts),
-    // none within the bound
-    NoneStands,
-}
-
 // Whether the block stands for c: c is a codeword, and the bound is kept.
-fn tested(word: &[u8], flags: &[u8], c: &[u8], n: usize, room: usize) -> Correction
+fn tested(word: &[u8], flags: &[u8], c: &[u8], n: usize, room: usize) -> Option<Counts>
     requires { (length flags.now ≡ length word.now) × (length c.now ≡ length word.now) × (length word.now ≤ 255) × (n ≤ 30) }
     ensures { Tested n room word.now flags.now c.now result }
 {
     if first(code::syndromes(c, n)) < 32 {
-        return Correction::NoneStands;
+        return None;
     }
     let t = differ(word, flags, c);
     let e = missing(flags);
     if room < 2 * t + e {
-        return Correction::NoneStands;
+        return None;
     }
-    Correction::Stood(Counts {
+    Some(Counts {
         differing: t,
         unreadable: e,
     })
@@ -549,18 +540,18 @@ fn put(word: &mut [u8], c: &[u8])
 }
 
 // The codeword that a block of n checks stands for within the room, put into the place of the word, with its counts; or none, and the word is as it was.
-pub fn correct(word: &mut [u8], flags: &[u8], n: usize, room: usize) -> Correction
+pub fn correct(word: &mut [u8], flags: &[u8], n: usize, room: usize) -> Option<Counts>
     requires { (length flags.now ≡ length word.old) × (length word.old ≤ 255) × (n ≤ 30) × (room ≤ n) }
     ensures { Corrected n room word.old flags.now word.new result }
 {
     let e = missing(flags);
     if room < e {
-        return Correction::NoneStands;
+        return None;
     }
     let s = code::syndromes(word, n);
     if e == 0 {
         if first(s) == 32 {
-            return Correction::Stood(Counts {
+            return Some(Counts {
                 differing: 0,
                 unreadable: 0,
             });
@@ -568,12 +559,7 @@ pub fn correct(word: &mut [u8], flags: &[u8], n: usize, room: usize) -> Correcti
     }
     let fixed = proposed(word, flags, s, n, e);
     let len = word.len();
-    let verdict = tested(word, flags, &fixed[..len], n, room);
-    match verdict {
-        Correction::NoneStands => Correction::NoneStands,
-        Correction::Stood(k) => {
-            put(word, &fixed[..len]);
-            Correction::Stood(k)
-        }
-    }
+    let counts = tested(word, flags, &fixed[..len], n, room)?;
+    put(word, &fixed[..len]);
+    Some(counts)
 }

@@ -102,19 +102,16 @@ fn answer(
 ) -> io::Result<()>
     requires { (length flags.now ≡ length word.old) × (length word.old ≤ 255) × (n ≤ 30) × (room ≤ n) }
 {
-    let found = corrector::correct(word, flags, n, room);
-    match found {
-        corrector::Correction::NoneStands => println!(rt; "none"),
-        corrector::Correction::Stood(k) => {
-            let differing = k.differing;
-            let unreadable = k.unreadable;
-            print!(rt; "{differing} wrong {unreadable}")?;
-            if *word == *sent {
-                println!(rt; " unreadable, as sent")
-            } else {
-                println!(rt; " unreadable, another")
-            }
-        }
+    let Some(counts) = corrector::correct(word, flags, n, room) else {
+        return println!(rt; "none");
+    };
+    let differing = counts.differing;
+    let unreadable = counts.unreadable;
+    print!(rt; "{differing} wrong {unreadable}")?;
+    if *word == *sent {
+        println!(rt; " unreadable, as sent")
+    } else {
+        println!(rt; " unreadable, another")
     }
 }
 

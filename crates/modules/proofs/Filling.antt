@@ -93,15 +93,15 @@ pub bit_past : (xs : List ℕ) (n : ℕ) → length xs ≤ n / 8 → get_or (byt
 bit_past xs n h = get_or-eq_default (byte_bits xs) 0 (rw (length_byte_bits xs) (omega arith))
 
 -- the code's places are those that the pair meets
-module _ (v q t s row right p : ℕ) (e : s ≡ side v) (few : t < s) (r : row ≡ cond (eqb (q % 2) 0) (s - 1 - t) t) (c : right ≡ pair_column (side v) q) (h : p ≡ row * s + right) where
+module _ (v q t s row right p : ℕ) (e : s ≡ side v) (few : t < s) (r : row ≡ cond (eqb (q % 2) 0) (s - 1 - t) t) (c : right ≡ pair_column s q) (h : p ≡ row * s + right) where
   pub first_place : p ≡ pair_place (side v) q (2 * t)
   first_place =
-      let there : pair_place s q (2 * t + 0) ≡ row * s + right = pair_place_lem s q t 0 few (omega arith) ∙ rw (r, c, e, sub-zero) in
+      let there : pair_place s q (2 * t + 0) ≡ row * s + right = pair_place_lem s q t 0 few (omega arith) ∙ rw (r, c, sub-zero) in
       h ∙ sym there ∙ rw (e, add-zero)
 
   pub second_place : 1 ≤ right → p - 1 ≡ pair_place (side v) q (suc (2 * t))
   second_place l =
-      let there : pair_place s q (2 * t + 1) ≡ row * s + (right - 1) = pair_place_lem s q t 1 few (omega arith) ∙ rw (r, c, e) in
+      let there : pair_place s q (2 * t + 1) ≡ row * s + (right - 1) = pair_place_lem s q t 1 few (omega arith) ∙ rw (r, c) in
       let back : p - 1 ≡ row * s + (right - 1) = omega arith in
       back ∙ sym there ∙ rw (e, add-one)
 

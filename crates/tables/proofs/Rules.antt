@@ -14,7 +14,7 @@ use Rattle.basics.specs.Sums.{one, sum}
 use Rattle.basics.proofs.Test.{all, grid, either, either_cases, is_not, is_not_lem}
 use Rattle.tables.specs.Version.{Square}
 use Rattle.tables.specs.Theorems.{Rules, LargestRules, FixesOnly}
-use Rattle.tables.specs.declared.Fixed.TheVariants.{Version, NoVersion}
+use Rattle.std.specs.Prelude.{Some, None}
 use Rattle.tables.specs.Tables.{Lawful, side, totals, check_rows, block_rows, total, check_count, block_count, data_count, short_length, short_blocks, block_data, block_start, block_length, room, last_version}
 
 -- ---- one test at all versions and levels
@@ -217,7 +217,7 @@ version_only n v w p q =
 
 -- no two different answers meet the promise of `version_of`
 pub fixes_only : FixesOnly
-fixes_only n (Version v) (Version w) p q = ap Version (version_only n v w p q)
-fixes_only n (Version v) NoVersion p q = absurd (q v p)
-fixes_only n NoVersion (Version w) p q = absurd (p w q)
-fixes_only n NoVersion NoVersion p q = refl
+fixes_only n (Some v) (Some w) p q = ap Some (version_only n v w p q)
+fixes_only n (Some v) None p q = absurd (q v p)
+fixes_only n None (Some w) p q = absurd (p w q)
+fixes_only n None None p q = refl

@@ -1,9 +1,8 @@
 -- What is shown of the version table beside the contracts, each a statement with a name.
-use Rattle.std.specs.Prelude.{◌≡◌, ℕ, ◌+◌, ◌-◌, ◌*◌, ◌<◌, ◌≤◌}
+use Rattle.std.specs.Prelude.{◌≡◌, ℕ, ◌+◌, ◌-◌, ◌*◌, ◌<◌, ◌≤◌, Option}
 use Rattle.basics.specs.Sums.{sum}
 use Rattle.tables.specs.Tables.{Lawful, total, check_count, block_count, data_count, short_length, short_blocks, block_data, block_start, block_length, room, side, last_version, most_side, most_modules, most_codewords, most_data, most_checks, most_blocks}
 use Rattle.tables.specs.Version.{Fixes}
-use Rattle.tables.specs.declared.Fixed.{Fixed}
 
 -- the rules that the table's numbers meet at a version and a level
 pub record TableRules (v level : ℕ) : Type 0 where
@@ -42,4 +41,4 @@ Rules = (v level : ℕ) → Lawful v level → TableRules v level
 
 -- "side length fixes the version": no two different answers satisfy the promise of `version_of`
 abbrev pub FixesOnly : Type 0
-FixesOnly = (n : ℕ) (a b : Fixed) → Fixes n a → Fixes n b → a ≡ b
+FixesOnly = (n : ℕ) (a b : Option ℕ) → Fixes n a → Fixes n b → a ≡ b

@@ -93,18 +93,6 @@ const CENTRES: [[u8; 3]; 10] = [
     [6, 28, 50],
 ];
 
-fn wide(x: u8) -> usize
-    ensures { result ≡ x }
-{
-    x as usize
-}
-
-fn wide16(x: u16) -> usize
-    ensures { result ≡ x }
-{
-    x as usize
-}
-
 // The side of a version's matrix.
 pub fn side(v: usize) -> usize
     requires { v ≤ last_version }
@@ -118,7 +106,7 @@ pub fn total(v: usize) -> usize
     requires { (1 ≤ v) × (v ≤ last_version) }
     ensures { result ≡ total_of v }
 {
-    wide16(TOTALS[v - 1])
+    usize::from(TOTALS[v - 1])
 }
 
 // The check codewords of each block.
@@ -126,7 +114,7 @@ pub fn checks(v: usize, level: usize) -> usize
     requires { Lawful v level }
     ensures { result ≡ check_count v level }
 {
-    wide(CHECKS[v - 1][level])
+    usize::from(CHECKS[v - 1][level])
 }
 
 // The blocks.
@@ -134,7 +122,7 @@ pub fn blocks(v: usize, level: usize) -> usize
     requires { Lawful v level }
     ensures { result ≡ block_count v level }
 {
-    wide(BLOCKS[v - 1][level])
+    usize::from(BLOCKS[v - 1][level])
 }
 
 // The data codewords of all blocks.
@@ -185,11 +173,7 @@ pub fn block_start(v: usize, level: usize, b: usize) -> usize
 {
     let short = short_length(v, level);
     let first = short_blocks(v, level);
-    if first <= b {
-        b * short + (b - first)
-    } else {
-        b * short
-    }
+    b * short + b.saturating_sub(first)
 }
 
 // The codewords of block b, data and checks.
@@ -213,16 +197,12 @@ pub fn room(v: usize, level: usize) -> usize
 pub fn count_width(v: usize, mode: usize) -> usize
     ensures { result ≡ count_width v mode }
 {
-    if mode == 1 {
-        return if v <= 9 { 10 } else { 12 };
+    match mode {
+        1 => if v <= 9 { 10 } else { 12 },
+        2 => if v <= 9 { 9 } else { 11 },
+        4 => if v <= 9 { 8 } else { 16 },
+        _ => 0,
     }
-    if mode == 2 {
-        return if v <= 9 { 9 } else { 11 };
-    }
-    if mode == 4 {
-        return if v <= 9 { 8 } else { 16 };
-    }
-    0
 }
 
 // How many alignment centres a version lists.
@@ -230,13 +210,11 @@ pub fn centre_count(v: usize) -> usize
     requires { (1 ≤ v) × (v ≤ last_version) }
     ensures { result ≡ length (centres v) }
 {
-    if v <= 1 {
-        return 0;
+    match v {
+        0..=1 => 0,
+        2..=6 => 2,
+        _ => 3,
     }
-    if v <= 6 {
-        return 2;
-    }
-    3
 }
 
 // Alignment centre k of a version, from 0; 0 where there are no more.
@@ -244,40 +222,22 @@ pub fn centre(v: usize, k: usize) -> usize
     requires { (1 ≤ v) × ((v ≤ last_version) × (k < 3)) }
     ensures { result ≡ get_or (centres v) k 0 }
 {
-    wide(CENTRES[v - 1][k])
+    usize::from(CENTRES[v - 1][k])
 }
 
 // The data modules that no codeword bit fills.
 pub fn surplus(v: usize) -> usize
     ensures { result ≡ surplus_of v }
 {
-    if v <= 1 {
-        return 0;
+    match v {
+        2..=6 => 7,
+        _ => 0,
     }
-    if v <= 6 {
-        return 7;
-    }
-    0
 }
 
-// What the length of a matrix says of its version.
-#[derive(Clone, Copy)]
-pub enum Fixed {
-    Version(usize),
-    NoVersion,
-}
-
-// The version whose matrix has this length, or that there is none.
-pub fn version_of(len: usize) -> Fixed
+// The version whose matrix has this length, if there is one.
+pub fn version_of(len: usize) -> Option<usize>
     ensures { Fixes len result }
 {
-    let mut v: usize = 1;
-    while v <= LAST_VERSION {
-        let s = side(v);
-        if s * s == len {
-            return Fixed::Version(v);
-        }
-        v += 1;
-    }
-    Fixed::NoVersion
+    (1..=LAST_VERSION).find(|v| side(*v) * side(*v) == len)
 }

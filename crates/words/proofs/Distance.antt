@@ -11,7 +11,7 @@ use lib.Arith.{lt-one}
 use lib.Dec.{T, leb, leb→le, eqb, eqb→eq}
 use lib.Pow.{shr_lt}
 use lib.Bits.{bit_and, bit_xor, and_shr, and_mod, and_le_r}
-use lib.Count.{ones, ones_in, ones_step, ones-le}
+use lib.Count.{ones, ones_in, ones_step}
 use Rattle.basics.proofs.Test.{all_2, at_2, at_3, either, either_cases}
 use Rattle.basics.proofs.Xor.{digit, xor_half, xor_low, xor_assoc, xor_left_comm, xor_cancel}
 use Rattle.words.specs.Words.{Near}
@@ -23,11 +23,8 @@ ones_in_lem zero n h = rw (lt-one h)
 ones_in_lem (suc k) n h = ones_step n ∙ ap (λ (x : ℕ). n % 2 + x) (ones_in_lem k (n / 2) (shr_lt k 1 (rw add-one h)))
 
 -- so for what is left of a number under a mask of k digits
-pub ones_under : (k a m : ℕ) → m < 2 ^ k → ones (bit_and a m) ≡ ones_in k (bit_and a m)
+ones_under : (k a m : ℕ) → m < 2 ^ k → ones (bit_and a m) ≡ ones_in k (bit_and a m)
 ones_under k a m h = ones_in_lem k (bit_and a m) (lt_of_le_of_lt (and_le_r a m) h)
-
-pub ones_under_le : (k a m : ℕ) → m < 2 ^ k → ones (bit_and a m) ≤ k
-ones_under_le k a m h = ones-le k (bit_and a m) (lt_of_le_of_lt (and_le_r a m) h)
 
 -- where two words differ, one of them differs from a third, or the place is not in the mask
 digits : (x y m : ℕ) → x < 2 → y < 2 → m < 2 → bit_xor x y + m ≤ bit_and x m + bit_and y m + 1
@@ -61,12 +58,12 @@ word_only k n f t copy readable x y hx hy p q =
     (either_cases (eqb x y) _ (at_2 n (λ x y. either (eqb x y) (leb 7 (ones_in k (bit_xor (f x) (f y))))) t x y hx hy))
 
 -- what the code compares with the bound is the definition's sum
-pub is_near : (k copy readable word d : ℕ) → readable < 2 ^ k → d ≡ ones_in k (bit_and (bit_xor copy word) readable) → 2 * d + (k - ones readable) ≤ 6
+pub is_near : (k copy readable word : ℕ) → readable < 2 ^ k → 2 * ones (bit_and (bit_xor copy word) readable) + (k - ones readable) ≤ 6
     → Near k copy readable word
 unfolding Near
-is_near k copy readable word d h e l = omega (arith, ones_in_lem k readable h)
+is_near k copy readable word h l = omega (arith, ones_under k (bit_xor copy word) readable h, ones_in_lem k readable h)
 
-pub not_near : (k copy readable word d : ℕ) → readable < 2 ^ k → d ≡ ones_in k (bit_and (bit_xor copy word) readable) → 6 < 2 * d + (k - ones readable)
+pub not_near : (k copy readable word : ℕ) → readable < 2 ^ k → 6 < 2 * ones (bit_and (bit_xor copy word) readable) + (k - ones readable)
     → Near k copy readable word → ⊥
 unfolding Near
-not_near k copy readable word d h e l n = omega (arith, ones_in_lem k readable h)
+not_near k copy readable word h l n = omega (arith, ones_under k (bit_xor copy word) readable h, ones_in_lem k readable h)

@@ -5,7 +5,7 @@ use lib.Count.{ones_in}
 use lib.Dec.{T}
 use Rattle.words.specs.Words.{reduced, format_word, version_word}
 use Rattle.words.specs.Theorems.{FormatOnly, VersionOnly, FormatFoundOnly, VersionFoundOnly}
-use Rattle.words.specs.declared.Found.TheVariants.{Word, NoWord}
+use Rattle.std.proofs.Common.{Some, None}
 use Rattle.words.proofs.Distance.{are_far, word_only}
 
 format_far : T (are_far 15 32 format_word)
@@ -24,14 +24,14 @@ version_only copy readable x y lx hx ly hy = word_only 18 41 version_word versio
 
 -- no two different answers meet the promise of `find_format` or of `find_version`
 pub format_found_only : FormatFoundOnly
-format_found_only copy readable (Word x) (Word y) p q = ap Word (format_only copy readable x y p.lawful q.lawful p.near q.near)
-format_found_only copy readable (Word x) NoWord p q = absurd (q x p)
-format_found_only copy readable NoWord (Word y) p q = absurd (p y q)
-format_found_only copy readable NoWord NoWord p q = refl
+format_found_only copy readable (Some x) (Some y) p q = ap Some (format_only copy readable x y p.lawful q.lawful p.near q.near)
+format_found_only copy readable (Some x) None p q = absurd (q x p)
+format_found_only copy readable None (Some y) p q = absurd (p y q)
+format_found_only copy readable None None p q = refl
 
 pub version_found_only : VersionFoundOnly
-version_found_only copy readable (Word x) (Word y) p q =
-    ap Word (version_only copy readable x y p.least p.most q.least q.most p.near q.near)
-version_found_only copy readable (Word x) NoWord p q = absurd (q x p)
-version_found_only copy readable NoWord (Word y) p q = absurd (p y q)
-version_found_only copy readable NoWord NoWord p q = refl
+version_found_only copy readable (Some x) (Some y) p q =
+    ap Some (version_only copy readable x y p.least p.most q.least q.most p.near q.near)
+version_found_only copy readable (Some x) None p q = absurd (q x p)
+version_found_only copy readable None (Some y) p q = absurd (p y q)
+version_found_only copy readable None None p q = refl

@@ -1,8 +1,7 @@
 -- What is shown of the words beside the contracts, each a statement with a name.
-use Rattle.std.specs.Prelude.{◌≡◌, ℕ, ◌≤◌, ◌<◌}
+use Rattle.std.specs.Prelude.{◌≡◌, ℕ, ◌≤◌, ◌<◌, Option}
 use Rattle.words.specs.Words.{format_word, version_word, Near}
 use Rattle.words.specs.Found.{FormatFound, VersionFound}
-use Rattle.words.specs.declared.Found.{Found}
 
 -- "Show that at most one does": a copy stands for at most one format word
 abbrev pub FormatOnly : Type 0
@@ -17,7 +16,7 @@ VersionOnly =
 
 -- "no two different answers satisfy one promise": that of `find_format`, and that of `find_version`
 abbrev pub FormatFoundOnly : Type 0
-FormatFoundOnly = (copy readable : ℕ) (a b : Found) → FormatFound copy readable a → FormatFound copy readable b → a ≡ b
+FormatFoundOnly = (copy readable : ℕ) (a b : Option ℕ) → FormatFound copy readable a → FormatFound copy readable b → a ≡ b
 
 abbrev pub VersionFoundOnly : Type 0
-VersionFoundOnly = (copy readable : ℕ) (a b : Found) → VersionFound copy readable a → VersionFound copy readable b → a ≡ b
+VersionFoundOnly = (copy readable : ℕ) (a b : Option ℕ) → VersionFound copy readable a → VersionFound copy readable b → a ≡ b

@@ -13,9 +13,7 @@ returns-then-first-eq32 c = clean c.requires.2 c.syndromes-s.ensures c.first.ens
     (λ j l. let f : Fits w8 (get_or c.args.word.now j 0) = search rules in omega (arith, f))
     c.missing-e.ensures c.if-e-eq0.true
 
-pub returns-in-NoneStands : goal.returns-in-NoneStands
-returns-in-NoneStands c = (
-  refl,
-  none c.args.n c.args.room c.args.word.now c.args.flags.now c.proposed-fixed.result c.requires.3 c.requires.1 (search rules) c.proposed-fixed.ensures c.tested-verdict.result
-      c.in-NoneStands.is c.tested-verdict.ensures,
-)
+pub returns-in_err-counts : goal.returns-in_err-counts
+returns-in_err-counts c =
+    rw c.from_residual.ensures
+    (refl, none c.args.n c.args.room c.args.word.now c.args.flags.now c.proposed-fixed.result c.requires.3 c.requires.1 (search rules) c.proposed-fixed.ensures c.in_err-counts.ensures)

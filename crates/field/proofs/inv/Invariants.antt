@@ -1,9 +1,7 @@
-use Rattle.std.proofs.Common.{◌≡◌, ◌<◌}
+-- `field::inv` meets its contract: after that many turns the product times the even powers that are left is the inverse.
+use Rattle.std.proofs.Common.{◌≡◌, ◌-◌, ◌<◌}
 use Rattle.field.specs.Field.{mul_n, even_powers, inv_n}
 use Rattle.field.proofs.inv.Given as goal
 
-abbrev pub invariant-loop-k : goal.invariant-loop-k
-invariant-loop-k l = (l.product < 256) × (l.s < 256) × (mul_n l.product (even_powers l.k l.s) ≡ inv_n l.a)
-
-abbrev pub decreases-loop-k : goal.decreases-loop-k
-decreases-loop-k l = l.k
+abbrev pub invariant-loop : goal.invariant-loop
+invariant-loop l = (l.product < 256) × (l.square < 256) × (mul_n l.product (even_powers (7 - l.counter) l.square) ≡ inv_n l.a)

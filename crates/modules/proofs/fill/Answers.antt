@@ -7,15 +7,15 @@ use Rattle.modules.proofs.Filling.{kept_length, few_used, kinds_length, few_step
 use Rattle.modules.proofs.fill.Goals as goal
 
 pub loop-q-init : goal.loop-q-init
-loop-q-init c = (omega arith, none_yet _ (omega arith) (omega arith) _ _ c.patterns.ensures)
+loop-q-init c = none_yet _ (omega arith) (omega arith) _ _ c.patterns.ensures
 
 pub pair-used-requires : goal.pair-used-requires
 pair-used-requires c =
     let l = c.loop-q in
     let v = c.args.v in
     let cs = c.args.codewords.now in
-    let few = few_used _ _ (l.q * (2 * side v)) _ _ _ _ l.invariant.1 in
-    let long = kept_length _ _ (l.q * (2 * side v)) _ _ _ _ l.invariant.1 in (
+    let few = few_used _ _ (l.q * (2 * side v)) _ _ _ _ l.invariant in
+    let long = kept_length _ _ (l.q * (2 * side v)) _ _ _ _ l.invariant in (
       omega arith,
       (
         omega arith,
@@ -32,9 +32,9 @@ pair-used-requires c =
 pub loop-q-preserved : goal.loop-q-preserved
 loop-q-preserved c =
     let l = c.loop-q in
-    (omega arith, pair_more c.args.v (omega arith) (omega arith) c.args.codewords.now l.q _ _ _ _ l.invariant.1 c.pair-used.ensures)
+    pair_more c.args.v (omega arith) (omega arith) c.args.codewords.now l.q _ _ _ _ l.invariant c.pair-used.ensures
 
 pub returns : goal.returns
 returns c =
     let l = c.loop-q in
-    laid_all c.args.v (omega arith) (omega arith) c.args.codewords.now l.base l.used l.q (omega arith) l.invariant.1
+    laid_all c.args.v (omega arith) (omega arith) c.args.codewords.now l.base l.used l.q (omega arith) l.invariant

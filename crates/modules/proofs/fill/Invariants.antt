@@ -1,6 +1,6 @@
 -- `modules::fill` meets its contract: the invariant: the first q column pairs have taken their bits, over the version's kinds.
 use mathlib.Core.Path.{◌≡◌}
-use Prim.Native.Nat.{◌-◌, ◌*◌, ◌≤◌}
+use Prim.Native.Nat.{◌*◌}
 use Rattle.basics.specs.Bits.{byte_bits}
 use Rattle.tables.specs.Tables.{side}
 use Rattle.modules.specs.Modules.{walk}
@@ -8,7 +8,4 @@ use Rattle.modules.specs.Kinds.{filling, kinds, put_all}
 use Rattle.modules.proofs.fill.Given as goal
 
 abbrev pub invariant-loop-q : goal.invariant-loop-q
-invariant-loop-q l = (l.q ≤ l.end) × (filling l.base l.used ≡ put_all (byte_bits l.codewords) (walk (side l.v)) (l.q * (2 * side l.v)) (filling (kinds l.v) 0))
-
-abbrev pub decreases-loop-q : goal.decreases-loop-q
-decreases-loop-q l = l.end - l.q
+invariant-loop-q l = filling l.base l.used ≡ put_all (byte_bits l.codewords) (walk (side l.v)) (l.q * (2 * side l.v)) (filling (kinds l.v) 0)

@@ -1,13 +1,10 @@
--- `modules::square` meets its contract: the invariant: t stores are made.
-use native.Mathlib.Omega.{arith}
-use Rattle.basics.proofs.Walk.{walked_none, walked_more}
+-- `modules::square` meets its contract: the closures give the place and the bit of each turn.
+use Rattle.std.proofs.Common.{rules}
+use Rattle.basics.specs.Bits.{bit_of}
 use Rattle.modules.specs.Kinds.{square_place}
 use Rattle.modules.proofs.square.Goals as goal
 
-pub loop-t-init : goal.loop-t-init
-loop-t-init c = (omega arith, walked_none _ _ _)
-
-pub loop-t-preserved : goal.loop-t-preserved
+pub returns : goal.returns
 unfolding square_place
-loop-t-preserved c = let l = c.loop-t in
-    (omega arith, walked_more _ _ _ l.out l.t _ _ l.invariant.1 c.place-p.ensures.0 c.bit_of.ensures)
+returns c = let a = c.args in
+    c.draw.ensures (square_place a.s a.top a.left a.w) (bit_of a.dark) (λ t p h e. search rules) (λ t x h e. search rules)

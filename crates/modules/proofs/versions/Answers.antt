@@ -1,21 +1,19 @@
--- `modules::versions` meets its contract: the invariant: t stores are made.
+-- `modules::versions` meets its contract: the closures give the place and the bit of each turn.
+use mathlib.Core.Path.{◌≡◌}
 use Prim.Native.Nat.{◌/◌, ◌%◌}
 use native.Mathlib.Omega.{arith}
-use Rattle.basics.proofs.Walk.{walked_none, walked_more, walked_made}
+use Rattle.std.proofs.Common.{rules}
 use Rattle.modules.specs.Kinds.{version_place, version_value}
 use Rattle.modules.proofs.Geometry.{word_places}
 use Rattle.modules.proofs.versions.Goals as goal
 
-pub loop-t-init : goal.loop-t-init
-loop-t-init c = (omega arith, walked_none _ _ _)
-
-pub bounds-out-p : goal.bounds-out-p
-bounds-out-p c = let l = c.loop-t in
+pub draw-requires-clause-inside : goal.draw-requires-clause-inside
+unfolding version_place
+draw-requires-clause-inside c = λ t p h e.
     let v = c.args.v in
-    omega (arith, walked_made _ _ _ l.t l.out l.invariant.1, c.version_place-p.ensures, (word_places v (omega arith) (omega arith)).version_inside (l.t % 2) (l.t / 2) (omega arith) (omega arith) (omega arith))
+    let there : p ≡ version_place v t = search rules in
+    omega (arith, there, (word_places v (omega arith) (omega arith)).version_inside (t % 2) (t / 2) (omega arith) (omega arith) (omega arith))
 
-pub loop-t-preserved : goal.loop-t-preserved
+pub returns : goal.returns
 unfolding version_place version_value
-loop-t-preserved c = let l = c.loop-t in
-    let a = c.args in
-    (omega arith, walked_more (version_place a.v) (version_value a.word) _ l.out l.t _ _ l.invariant.1 c.version_place-p.ensures c.bit_of.ensures)
+returns c = c.draw.ensures (version_place c.args.v) (version_value c.args.word) (λ t p h e. search rules) (λ t x h e. search rules)

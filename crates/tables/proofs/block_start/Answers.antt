@@ -1,4 +1,4 @@
--- `tables::block_start_lem` meets its contract: what a block starts at has a closed form, and is at most the data.
+-- `tables::block_start` meets its contract: what a block starts at has a closed form, and is at most the data.
 use mathlib.Core.Path.{sym}
 use Prim.Native.Nat.{ℕ, ◌+◌, ◌-◌, ◌*◌, ◌≤◌}
 use native.Mathlib.Omega.{arith}
@@ -14,13 +14,10 @@ pub overflow_mul-result : goal.overflow_mul-result
 overflow_mul-result c = rw c.short_length-short.ensures (omega (arith, start_most c.args.v c.args.level c.args.b c.requires.0 c.requires.1))
 
 pub overflow_add-result : goal.overflow_add-result
-overflow_add-result c = rw (c.short_length-short.ensures, c.short_blocks-first.ensures) (omega (arith, start_most c.args.v c.args.level c.args.b c.requires.0 c.requires.1))
+overflow_add-result c =
+    rw (c.short_length-short.ensures, c.saturating_sub.ensures, c.short_blocks-first.ensures)
+    (omega (arith, start_most c.args.v c.args.level c.args.b c.requires.0 c.requires.1))
 
-pub overflow_mul-result-else-first-b : goal.overflow_mul-result-else-first-b
-overflow_mul-result-else-first-b c = rw c.short_length-short.ensures (omega (arith, start_most c.args.v c.args.level c.args.b c.requires.0 c.requires.1))
-
-pub returns-then-first-b : goal.returns-then-first-b
-returns-then-first-b c = rw (c.short_length-short.ensures, c.short_blocks-first.ensures) (sym (block_start_lem c.args.v c.args.level c.args.b))
-
-pub returns-else-first-b : goal.returns-else-first-b
-returns-else-first-b c = rw c.short_length-short.ensures (omega (arith, c.short_blocks-first.ensures, c.if-first-b.false, block_start_lem c.args.v c.args.level c.args.b))
+pub returns : goal.returns
+returns c =
+    rw (c.short_length-short.ensures, c.saturating_sub.ensures, c.short_blocks-first.ensures) (sym (block_start_lem c.args.v c.args.level c.args.b))

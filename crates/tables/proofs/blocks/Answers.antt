@@ -9,4 +9,4 @@ use Rattle.tables.proofs.blocks.Goals as goal
 
 pub returns : goal.returns
 unfolding block_rows block_count
-returns c = c.wide.ensures ∙ ap (λ (r : List ℕ). get_or r c.args.level 0) (past_front [] block_rows c.args.v c.requires.least)
+returns c = c.from.ensures ∙ ap (λ (r : List ℕ). get_or r c.args.level 0) (past_front [] block_rows c.args.v c.requires.least)

@@ -23,4 +23,4 @@ unfolding rows
 returns c = let v : ℕ = c.args.v in
     let k : ℕ = c.args.k in
     let up : suc (v - 1) ≡ v = omega arith in
-    c.wide.ensures ∙ eqb→eq _ _ (grid 10 3 (λ u k. eqb (get_or (get_or rows u []) k 0) (get_or (centres (suc u)) k 0)) tested (v - 1) k (omega arith) (omega arith)) ∙ ap (λ (w : ℕ). get_or (centres w) k 0) up
+    c.from.ensures ∙ eqb→eq _ _ (grid 10 3 (λ u k. eqb (get_or (get_or rows u []) k 0) (get_or (centres (suc u)) k 0)) tested (v - 1) k (omega arith) (omega arith)) ∙ ap (λ (w : ℕ). get_or (centres w) k 0) up

@@ -9,4 +9,4 @@ use Rattle.tables.proofs.checks.Goals as goal
 
 pub returns : goal.returns
 unfolding check_rows check_count
-returns c = c.wide.ensures ∙ ap (λ (r : List ℕ). get_or r c.args.level 0) (past_front [] check_rows c.args.v c.requires.least)
+returns c = c.from.ensures ∙ ap (λ (r : List ℕ). get_or r c.args.level 0) (past_front [] check_rows c.args.v c.requires.least)

@@ -1,17 +1,17 @@
 -- `tables::surplus` meets its contract.
-use native.Mathlib.Omega.{arith}
-use borrow.Author.Tests.{le-leb, lt-leb}
+use Rattle.std.proofs.Common.{arith}
+use Rattle.std.proofs.lemmas.Bool.Decides.{nat_tests}
 use Rattle.tables.specs.Tables.{surplus}
 use Rattle.tables.proofs.surplus.Goals as goal
 
-pub returns-then-v-le1 : goal.returns-then-v-le1
+pub returns-in-2-to-6 : goal.returns-in-2-to-6
 unfolding surplus
-returns-then-v-le1 c = rw (lt-leb 2 c.args.v (omega arith))
+returns-in-2-to-6 c = grind (arith, nat_tests)
 
-pub returns-then-v-le6 : goal.returns-then-v-le6
+pub returns-in_default : goal.returns-in_default
 unfolding surplus
-returns-then-v-le6 c = rw (le-leb 2 c.args.v c.if-v-le1.false, le-leb _ 6 c.if-v-le6.true)
+returns-in_default c = grind (arith, nat_tests)
 
-pub returns : goal.returns
+pub returns-in_default-2 : goal.returns-in_default-2
 unfolding surplus
-returns c = rw (le-leb 2 c.args.v c.if-v-le1.false, lt-leb _ 6 c.if-v-le6.false)
+returns-in_default-2 c = grind (arith, nat_tests)

@@ -6,4 +6,4 @@ use Rattle.tables.proofs.total.Goals as goal
 
 pub returns : goal.returns
 unfolding totals total
-returns c = c.wide16.ensures ∙ past_front 0 totals c.args.v c.requires.0
+returns c = c.from.ensures ∙ past_front 0 totals c.args.v c.requires.0
