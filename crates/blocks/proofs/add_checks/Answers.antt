@@ -45,7 +45,7 @@ loop-b-preserved c =
       long = length_lent l.words c.copy_from_slice.new.self l.c c.checks-n.result room (c.copy_from_slice.ensures.len ∙ length_part l.words l.c c.checks-n.result room) ∙ i.long;
       done = front_more v level codewords l.words words_0 c.copy_from_slice.new.self l.b l.c c.checks-n.result i.done
           (front_ends v level lawful codewords long l.b l.c i.made)
-          (made_checks v level codewords _ c.remainder-made.result c.copy_from_slice.new.self c.checks-n.result l.b c.checks-n.ensures held c.remainder-made.ensures.result_value c.copy_from_slice.ensures.after);
+          (made_checks v level codewords _ c.remainder-made.result c.copy_from_slice.new.self c.checks-n.result l.b c.checks-n.ensures held c.remainder-made.ensures.front c.copy_from_slice.ensures.after);
     }
 
 pub returns : goal.returns
