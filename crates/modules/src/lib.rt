@@ -130,6 +130,7 @@ fn draw<P: Fn(usize) -> usize, K: Fn(usize) -> u8>(out: &mut [u8], turns: usize,
 }
 
 // A square of side w: dark where a bit is set, row by row.
+#[tactic(auto, unfolding(crate::specs::Kinds::square_place))]
 fn square(out: &mut [u8], s: usize, top: usize, left: usize, w: usize, dark: u64)
     requires { (1 ≤ w) × ((w ≤ 8) × ((s ≤ 57) × ((top + w ≤ s) × ((left + w ≤ s) × (s * s ≤ length out.old))))) }
     ensures { out.new ≡ walked (square_place s top left w) (bit_of dark) (w * w) out.old }
@@ -157,6 +158,7 @@ fn timing_place(s: usize, t: usize) -> usize
 }
 
 // Row 6 and column 6 between the finders, dark at even index.
+#[tactic(auto, unfolding(crate::specs::Kinds::timing_value))]
 fn timing(out: &mut [u8], s: usize)
     requires { (21 ≤ s) × ((s ≤ 57) × (s * s ≤ length out.old)) }
     ensures { out.new ≡ walked (timing_place s) timing_value (2 * (s - 16)) out.old }
@@ -170,6 +172,7 @@ fn timing(out: &mut [u8], s: usize)
 }
 
 // The kinds of the format word's bits, in both copies.
+#[tactic(auto, unfolding(crate::specs::Kinds::format_place, crate::specs::Kinds::format_value))]
 fn formats(out: &mut [u8], v: usize)
     requires { (1 ≤ v) × ((v ≤ last_version) × (side_of v * side_of v ≤ length out.old)) }
     ensures { out.new ≡ walked (format_place v) format_value 30 out.old }
@@ -183,6 +186,7 @@ fn formats(out: &mut [u8], v: usize)
 }
 
 // The bits of the version word, in both copies.
+#[tactic(auto, unfolding(crate::specs::Kinds::version_place, crate::specs::Kinds::version_value))]
 fn versions(out: &mut [u8], v: usize, word: u64)
     requires { (7 ≤ v) × ((v ≤ last_version) × (side_of v * side_of v ≤ length out.old)) }
     ensures { out.new ≡ walked (version_place v) (version_value word) 36 out.old }
@@ -204,15 +208,13 @@ fn at_finder(n: usize, a: usize, b: usize) -> bool
     a * b == 0 && (a + b == 0 || a + b + 1 == n)
 }
 
-// The alignment pattern at pair t of the listed centres, none at a finder.
-fn alignment(out: &mut [u8], v: usize, t: usize)
-    requires { (1 ≤ v) × ((v ≤ last_version) × ((t < length (centres v) * length (centres v)) × (side_of v * side_of v ≤ length out.old))) }
-    ensures { out.new ≡ aligned_one v t out.old }
+// The alignment pattern at pair (a, b) of the listed centres, none at a finder.
+#[tactic(auto, using(crate::proofs::Centres::centres_few, crate::proofs::Centres::centre_inside, crate::proofs::Centres::aligned_skip, crate::proofs::Centres::aligned_square))]
+fn alignment(out: &mut [u8], v: usize, a: usize, b: usize)
+    requires { (1 ≤ v) × ((v ≤ last_version) × ((a < length (centres v)) × ((b < length (centres v)) × (side_of v * side_of v ≤ length out.old)))) }
+    ensures { out.new ≡ aligned_one v (a * length (centres v) + b) out.old }
 {
-    let n = tables::centre_count(v);
-    let a = t / n;
-    let b = t % n;
-    if at_finder(n, a, b) {
+    if at_finder(tables::centre_count(v), a, b) {
         return;
     }
     let i = tables::centre(v, a);
@@ -222,14 +224,16 @@ fn alignment(out: &mut [u8], v: usize, t: usize)
 }
 
 // All alignment patterns.
-#[tactic(auto, using(crate::proofs::Centres::centres_few, crate::proofs::Centres::squared, crate::proofs::Centres::aligned_none, crate::proofs::Centres::aligned_more))]
+#[tactic(auto, using(crate::proofs::Centres::aligned_none, crate::proofs::Centres::aligned_more, crate::proofs::Centres::aligned_row, crate::proofs::Centres::aligned_rows))]
 fn alignments(out: &mut [u8], v: usize)
     requires { (1 ≤ v) × ((v ≤ last_version) × (side_of v * side_of v ≤ length out.old)) }
     ensures { out.new ≡ aligned v (length (centres v) * length (centres v)) out.old }
 {
     let n = tables::centre_count(v);
-    for t in 0..n * n {
-        alignment(out, v, t);
+    for a in 0..n {
+        for b in 0..n {
+            alignment(out, v, a, b);
+        }
     }
 }
 
