@@ -3,16 +3,15 @@
 use mathlib.Core.Path.{◌≡◌, sym, ap, ap₂, ◌∙◌}
 use mathlib.Core.List.{List, [], ◌∷◌, ◌++◌, append_assoc}
 use Prim.Native.Nat.{ℕ, zero, suc, ◌+◌, ◌-◌, ◌*◌, ◌/◌, ◌%◌, ◌^◌, ◌<◌, ◌≤◌}
-use native.Mathlib.Nat.{zero-add, suc-add, mod-lt, div-le_self, div-mul-le_self, le_of_suc-le-suc, not-suc-le-zero}
+use native.Mathlib.Nat.{zero-add, suc-add, mod-lt, le_of_suc-le-suc, not-suc-le-zero}
 use native.Mathlib.Omega.{arith}
 use lib.Arith.{digits_lt}
-use lib.Pow.{pow_pos, pow_mono, pow-add, shr_lt, high, low, split, shr-shr}
+use lib.Pow.{pow_pos, pow-add, shr_lt, high, low, split, shr-shr}
 use lib.ListN.{length, get_or, set, take, drop, length-append}
 use lib.Seq.{take-nil, take-take, take_at, drop_at, drop-drop, take-add, take-append-le, drop-append-le, take-append-add, drop-append-add, paste, take-paste, drop-paste}
 use Rattle.basics.specs.Bits.{bits, byte_bits, number}
 use Rattle.basics.proofs.Bits.{length_bits, length_byte_bits, bits_mod, number_append, number_mod, take_byte_bits}
 use Rattle.cursor.specs.Cursor.{field}
-use Rattle.cursor.proofs.Fields.{field_16}
 
 -- the bits of a number that is put together from two
 pub bits_low : (k h l : ℕ) → l < 2 ^ k → bits k (h * 2 ^ k + l) ≡ bits k l
@@ -69,14 +68,8 @@ byte_part x a m l v e =
     (length-append (bits a (x / 2 ^ l / 2 ^ m)) (bits m (x / 2 ^ l)) ∙ ap₂ ◌+◌ (length_bits a _) (length_bits m _)) in
     ap (λ (k : ℕ). bits k (with_part x l m v)) e ∙ part_bits x a m l v ∙ ap₂ (λ (f b : List ℕ). f ++ (bits m v ++ b)) (sym front) (sym back)
 
--- it is a byte, and so is all that it is worked out from
+-- it is a byte
 module _ (x l m v : ℕ) (hx : x < 256) (h : l + m ≤ 8) where
-  pub high_small : x / 2 ^ l / 2 ^ m * 2 ^ m < 256
-  high_small = omega (arith, div-mul-le_self (x / 2 ^ l) (2 ^ m), div-le_self x (2 ^ l))
-
-  pub sum_small : x / 2 ^ l / 2 ^ m * 2 ^ m + v % 2 ^ m < 512
-  sum_small = omega (arith, high_small, mod-lt v (pow_pos m), pow_mono {i = m} {j = 8} (omega arith))
-
   pub part_small : with_part x l m v < 256
   part_small = at (8 - l - m) (omega arith)
     where
@@ -85,9 +78,6 @@ module _ (x l m v : ℕ) (hx : x < 256) (h : l + m ≤ 8) where
           let all : 2 ^ a * 2 ^ m * 2 ^ l ≡ 256 = sym (ap (λ (n : ℕ). 2 ^ n) e ∙ pow-add 2 (a + m) l ∙ ap (λ (n : ℕ). n * 2 ^ l) (pow-add 2 a m)) in
           let top : x / 2 ^ l < 2 ^ (a + m) = shr_lt (a + m) l (rw (← e) hx) in
           rw all at (digits_lt (digits_lt (shr_lt a m top) (mod-lt v (pow_pos m))) (mod-lt x (pow_pos l)))
-
-  pub product_small : (x / 2 ^ l / 2 ^ m * 2 ^ m + v % 2 ^ m) * 2 ^ l < 256
-  product_small = omega (arith, part_small)
 
 -- a byte stored that differs from the old one in bits that stand in it
 pub part_byte_bits : (s : List ℕ) (q r m y : ℕ) (c : List ℕ) → q < length s → r + m ≤ 8
@@ -153,10 +143,6 @@ field_part s at k m h pos l =
 pub field_grown : (s : List ℕ) (at k m v p x : ℕ) → at + k + m ≤ 8 * length s → 0 < m → (at + k) % 8 + m ≤ 8 → v ≡ field s at k → p ≡ 2 ^ m
     → x ≡ get_or s ((at + k) / 8) 0 / 2 ^ (8 - (at + k) % 8 - m) % 2 ^ m → v * p + x ≡ field s at (k + m)
 field_grown s at k m v p x h pos l ev ep ex = rw (ev, ep, ex) (sym (field_part s at k m h pos l))
-
--- the number of its first bits, with room made for m more
-pub field_shifted : (s : List ℕ) (at k m : ℕ) → at + k + m ≤ 8 * length s → 0 < m → (at + k) % 8 + m ≤ 8 → k + m ≤ 16 → field s at k * 2 ^ m < 4294967296
-field_shifted s at k m h pos l few = omega (arith, field_part s at k m h pos l, field_16 s at (k + m) few)
 
 -- m bits more put, that stand in one byte
 pub put_part : (s t : List ℕ) (at n x k m y a b : ℕ) → k + m ≤ n → at + n ≤ 8 * length s → length t ≡ length s → 0 < m → (at + k) % 8 + m ≤ 8

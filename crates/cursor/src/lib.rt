@@ -1,7 +1,7 @@
 // A bit cursor by value: its methods take `self` and return the moved cursor. Bits go most significant first.
 #![tactic(auto)]
 
-ghost use Rattle.std.specs.Prelude.{◌≡◌, ◌++◌, ◌+◌, ◌-◌, ◌*◌, ◌/◌, ◌%◌, ◌^◌, ◌<◌, ◌≤◌, min, length, take, drop};
+ghost use Rattle.std.specs.Prelude.{◌≡◌, ◌++◌, ◌+◌, ◌-◌, ◌*◌, ◌/◌, ◌%◌, ◌^◌, ◌<◌, ◌≤◌, length, take, drop};
 ghost use Rattle.basics.specs.Bits.{bits};
 ghost use Rattle.cursor.specs.Cursor.{field, with_bits};
 
@@ -14,22 +14,6 @@ pub struct Cursor {
 pub struct Taken {
     pub value: u32,
     pub next: Cursor,
-}
-
-fn wide(x: u8) -> u32
-    ensures { result ≡ x }
-{
-    x as u32
-}
-
-// The lower of two numbers.
-fn least(a: usize, b: usize) -> usize
-    ensures { result ≡ min a b }
-{
-    if a < b {
-        return a;
-    }
-    b
 }
 
 // 2 to the power of a number up to 16.
@@ -45,7 +29,7 @@ fn part_of(x: u8, low: usize, m: usize) -> u32
     requires { low + m ≤ 8 }
     ensures { result ≡ x / 2 ^ low % 2 ^ m }
 {
-    wide(x) / power(low) % power(m)
+    u32::from(x) / power(low) % power(m)
 }
 
 // A byte whose m bits above its lowest `low` are the lowest of a number.
@@ -53,17 +37,11 @@ fn with_part(x: u8, low: usize, m: usize, value: u32) -> u8
     requires { low + m ≤ 8 }
     ensures { bits 8 result ≡ take (8 - low - m) (bits 8 x) ++ (bits m value ++ drop (8 - low) (bits 8 x)) }
 {
-    let u = power(low);
-    let w = power(m);
-    let whole = wide(x);
-    narrow((whole / u / w * w + value % w) * u + whole % u)
-}
-
-fn narrow(x: u32) -> u8
-    requires { x < 256 }
-    ensures { result ≡ x }
-{
-    x as u8
+    let unit = power(low);
+    let size = power(m);
+    let byte = u32::from(x);
+    let changed = (byte / unit / size * size + value % size) * unit + byte % unit;
+    changed as u8
 }
 
 impl Cursor {
@@ -75,10 +53,11 @@ impl Cursor {
         let at = self.at;
         let mut v: u32 = 0;
         let mut k: usize = 0;
+        // a `while`, since the bits of a turn are as many as the byte has left
         while k < n {
             let p = at + k;
             let room = 8 - p % 8;
-            let m = least(room, n - k);
+            let m = room.min(n - k);
             v = v * power(m) + part_of(bytes[p / 8], room - m, m);
             k += m;
         }
@@ -95,10 +74,11 @@ impl Cursor {
     {
         let at = self.at;
         let mut k: usize = 0;
+        // a `while`, since the bits of a turn are as many as the byte has left
         while k < n {
             let p = at + k;
             let room = 8 - p % 8;
-            let m = least(room, n - k);
+            let m = room.min(n - k);
             let i = p / 8;
             out[i] = with_part(out[i], room - m, m, value >> (n - k - m));
             k += m;

@@ -2,6 +2,7 @@
 use mathlib.Core.Path.{◌≡◌, refl, sym, ap, ◌∙◌}
 use mathlib.Core.Bool.{Bool, true, false, cond}
 use mathlib.Core.List.{List, [], ◌++◌, append_assoc, append-nil}
+use Rattle.std.specs.Prelude.{Ok, Err}
 use Prim.Native.Nat.{ℕ, ◌+◌, ◌-◌, ◌<◌, ◌≤◌}
 use native.Mathlib.Omega.{arith}
 use lib.Dec.{eqb}
@@ -11,11 +12,10 @@ use borrow.Author.Tests.{le-leb, lt-leb}
 use Rattle.basics.specs.Bits.{byte_bits, number, bytes}
 use Rattle.basics.proofs.Bits.{byte_bits_le}
 use Rattle.cursor.specs.Cursor.{field}
-use Rattle.cursor.specs.declared.Cursor.{Cursor}
 use Rattle.cursor.proofs.Bits.{at_most_drop}
 use Rattle.stream.specs.Stream.{known, body_width}
 use Rattle.parse.specs.declared.Group.{Group}
-use Rattle.parse.specs.declared.Reading.TheVariants.{Past, OutOfRange}
+use Rattle.parse.specs.declared.Fault.TheVariants.{OutOfRange}
 use Rattle.parse.specs.Steps.{BodyReads}
 use Rattle.parse.specs.Groups.{group_of, group_characters, InGroup}
 use Rattle.parse.specs.Parse.{digits, digits_in_range, pairs, pairs_in_range, characters, groups_in_range}
@@ -57,17 +57,14 @@ module _ (codewords : List ℕ) (mode count used at₀ : ℕ) (payload₀ : List
 
   module _ (payload : List ℕ) (at done : ℕ) (a : Along codewords mode count used at₀ payload₀ payload at done) where
     -- all of it
-    pub along_all : done ≡ count → BodyReads codewords at₀ mode count used payload₀ payload (Past (record { at = at }))
+    pub along_all : done ≡ count → BodyReads codewords at₀ mode count used payload₀ payload (Ok (record { at = at }))
     along_all e =
         let z : count - done ≡ 0 = omega arith in
         record {
-          refuses = rw (a.ranges, z, none_ranges mode (drop at (byte_bits codewords)));
-          chars = λ c o. sym (a.chars ∙ rw (z, e, none_chars mode (drop at (byte_bits codewords))) (append-nil (take (used + count) payload)));
-          place = λ c o. let q : c.at ≡ at = cc in omega (arith, a.place, ap (body_width mode) z, none_width mode);
+          ranged = rw (a.ranges, z, none_ranges mode (drop at (byte_bits codewords)));
+          chars = sym (a.chars ∙ rw (z, e, none_chars mode (drop at (byte_bits codewords))) (append-nil (take (used + count) payload)));
+          place = omega (arith, a.place, ap (body_width mode) z, none_width mode);
         }
-
-no_cursor : (c : Cursor) → OutOfRange ≡ Past c → ⊥
-no_cursor c o = let z : ◌≡◌ {A = ℕ} 0 1 = cc in omega arith
 
 -- what the next group g is good for
 pub record Turn (codewords : List ℕ) (mode count used at₀ : ℕ) (payload₀ payload : List ℕ) (at done : ℕ) (g : Group) : Type 0 where
@@ -76,7 +73,7 @@ pub record Turn (codewords : List ℕ) (mode count used at₀ : ℕ) (payload₀
   pub least : 1 ≤ g.size
   pub most : done + g.size ≤ count
   pub inside : (x : ℕ) → x ≤ g.most → InGroup mode g.size x
-  pub broken : g.most < field codewords at g.width → BodyReads codewords at₀ mode count used payload₀ payload OutOfRange
+  pub broken : g.most < field codewords at g.width → BodyReads codewords at₀ mode count used payload₀ payload (Err OutOfRange)
   pub further : (after : List ℕ) (to x : ℕ) → length after ≡ length payload → to ≡ at + g.width → x ≡ field codewords at g.width → x ≤ g.most
       → take (used + done + g.size) after ≡ take (used + done) payload ++ group_characters mode g.size x
       → Along codewords mode count used at₀ payload₀ after to (done + g.size)
@@ -100,11 +97,7 @@ module _ (codewords : List ℕ) (mode count used at₀ : ℕ) (payload₀ payloa
         least = n.least;
         most = omega (arith, n.most);
         inside = n.inside;
-        broken = λ h. record {
-          refuses = rw (a.ranges, n.ranges, lt-leb _ _ h);
-          chars = λ c o. absurd (no_cursor c o);
-          place = λ c o. absurd (no_cursor c o);
-        };
+        broken = λ h. (rw (a.ranges, n.ranges, lt-leb _ _ h), refl);
         further = λ after to x' h p q r w. rw p (record {
           long = h ∙ a.long;
           passed = omega (arith, n.most);

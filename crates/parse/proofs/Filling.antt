@@ -3,6 +3,7 @@
 use mathlib.Core.Path.{◌≡◌, refl, sym, ap, ap₂, ◌∙◌}
 use mathlib.Core.Bool.{Bool, true, false, cond}
 use mathlib.Core.List.{List, [], ◌∷◌, ◌++◌, append_assoc, append-nil}
+use Rattle.std.specs.Prelude.{Ok}
 use Prim.Native.Nat.{ℕ, suc, ◌+◌, ◌-◌, ◌*◌, ◌<◌, ◌≤◌}
 use native.Mathlib.Omega.{arith}
 use lib.Dec.{leb}
@@ -13,7 +14,6 @@ use Rattle.basics.proofs.Bits.{length_byte_bits}
 use Rattle.tables.specs.Tables.{most_payload, most_list}
 use Rattle.stream.specs.Stream.{body_width}
 use Rattle.parse.specs.declared.Progress.{Progress}
-use Rattle.parse.specs.declared.Parsing.TheVariants.{Whole}
 use Rattle.parse.specs.Parse.{characters, End, Refusal, head_width, ends, front, Parsed, Message, Fault, in_front, parse, most_data, message}
 use Rattle.parse.specs.Steps.{Load, StepAsks, Stepped, FillReads}
 use Rattle.parse.proofs.Front.{segment_whole, parse_segment, parse_refusal, parse_end}
@@ -77,7 +77,7 @@ module _ (codewords : List ℕ) (v : ℕ) (payload₀ list₀ : List ℕ) where
         (ap (λ (k : ℕ). parse k v (drop p.cursor.at (byte_bits codewords))) (fuel g) ∙ parse_refusal (8 * length codewords - (p.segments + 1)) v (drop p.cursor.at (byte_bits codewords)) n e)
 
     pub filling_end : length codewords ≤ most_data v → ends (drop p.cursor.at (byte_bits codewords)) ≡ true
-        → FillReads codewords v payload list (Whole (record { payload = p.used; segments = p.segments }))
+        → FillReads codewords v payload list (Ok (record { payload = p.used; segments = p.segments }))
     unfolding front
     filling_end s g =
         let h = load_enough v p.cursor.at p.used p.segments f.load (omega (arith, f.inside)) in

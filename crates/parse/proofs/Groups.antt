@@ -9,6 +9,8 @@ use native.Mathlib.Omega.{arith}
 use lib.Dec.{leb}
 use lib.ListN.{length, take, drop, set, length-set}
 use lib.Seq.{take-suc-set}
+use borrow.Rule.Slice.PartMut.{put_mid}
+use Rattle.std.proofs.lemmas.Slice.{take-put_mid}
 use borrow.Author.Tests.{le-leb, ne_eqb}
 use Rattle.basics.specs.Bits.{number, bytes}
 use Rattle.basics.specs.Lists.{AtMost}
@@ -35,34 +37,30 @@ module _ (l : List ℕ) (p : ℕ) where
       ∙ ap (λ (x : List ℕ). x ++ (b ∷ [])) (put_one l p a (omega arith))
       ∙ append_assoc (take p l) (a ∷ []) (b ∷ [])
 
-  pub put_three : (a b c : ℕ) → p + 3 ≤ length l → take (p + 3) (set (set (set l p a) (p + 1) b) (p + 2) c) ≡ take p l ++ (a ∷ b ∷ c ∷ [])
-  put_three a b c h =
-      let e : p + 3 ≡ p + 2 + 1 = omega arith in
-      ap (λ (n : ℕ). take n (set (set (set l p a) (p + 1) b) (p + 2) c)) e
-      ∙ put_one (set (set l p a) (p + 1) b) (p + 2) c (rw (length-set (set l p a) (p + 1) b, length-set l p a) (omega arith))
-      ∙ ap (λ (x : List ℕ). x ++ (c ∷ [])) (put_two a b (omega arith))
-      ∙ append_assoc (take p l) (a ∷ b ∷ []) (c ∷ [])
-
 -- ---- a group written
 
 module _ (l out : List ℕ) (p mode size x : ℕ) where
   abbrev pub Placed : Type 0
   Placed = take (p + size) out ≡ take p l ++ group_characters mode size x
 
+module _ (l ys : List ℕ) (p k mode size x : ℕ) (f : p + size ≤ length l) where
+  placed : length ys ≡ size → ys ≡ group_characters mode size x → Placed l (put_mid p k l ys) p mode size x
+  placed n e = take-put_mid p k l ys (p + size) (omega arith) (omega arith) ∙ ap (λ (zs : List ℕ). take p l ++ zs) e
+
   pub placed_three : {a b c : ℕ} → size ≡ 3 → a ≡ character (x / 100) → b ≡ character (x / 10 % 10) → c ≡ character (x % 10)
-      → take (p + 3) out ≡ take p l ++ (a ∷ b ∷ c ∷ []) → Placed
+      → ys ≡ a ∷ b ∷ c ∷ [] → Placed l (put_mid p k l ys) p mode size x
   unfolding group_characters
-  placed_three e ea eb ec h = rw (e, ← ea, ← eb, ← ec) h
+  placed_three e ea eb ec h = placed (rw (e, h)) (rw (e, h, ea, eb, ec))
 
   pub placed_digits : {a b : ℕ} → size ≡ 2 → mode ≡ 1 → a ≡ character (x / 10) → b ≡ character (x % 10)
-      → take (p + 2) out ≡ take p l ++ (a ∷ b ∷ []) → Placed
+      → ys ≡ a ∷ b ∷ [] → Placed l (put_mid p k l ys) p mode size x
   unfolding group_characters
-  placed_digits e m ea eb h = rw (e, m, ← ea, ← eb) h
+  placed_digits e m ea eb h = placed (rw (e, h)) (rw (e, m, h, ea, eb))
 
   pub placed_pair : {a b : ℕ} → size ≡ 2 → (mode ≡ 1 → ⊥) → a ≡ character (x / 45) → b ≡ character (x % 45)
-      → take (p + 2) out ≡ take p l ++ (a ∷ b ∷ []) → Placed
+      → ys ≡ a ∷ b ∷ [] → Placed l (put_mid p k l ys) p mode size x
   unfolding group_characters
-  placed_pair e m ea eb h = rw (e, ne_eqb mode 1 m, ← ea, ← eb) h
+  placed_pair e m ea eb h = placed (rw (e, h)) (rw (e, ne_eqb mode 1 m, h, ea, eb))
 
 -- the last size
 pub size_one : (mode size x : ℕ) → InGroup mode size x → (size ≡ 3 → ⊥) → (size ≡ 2 → ⊥) → size ≡ 1

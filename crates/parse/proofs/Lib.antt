@@ -1,7 +1,5 @@
 pub mod Along
-pub mod Answer
 pub mod Body
-pub mod Copying
 pub mod Encode
 pub mod Filling
 pub mod Front

@@ -2,6 +2,7 @@
 use mathlib.Core.Path.{◌≡◌, refl, sym, ap, ◌∙◌}
 use mathlib.Core.Bool.{Bool, true, false, cond}
 use mathlib.Core.List.{List}
+use Rattle.std.specs.Prelude.{Err}
 use Prim.Native.Nat.{ℕ, ◌+◌, ◌*◌, ◌<◌, ◌≤◌}
 use native.Mathlib.Omega.{arith}
 use lib.Dec.{leb}
@@ -13,11 +14,10 @@ use Rattle.cursor.specs.declared.Cursor.{Cursor}
 use Rattle.tables.specs.Tables.{count_width, most_payload}
 use Rattle.stream.specs.Stream.{body_width}
 use Rattle.parse.specs.declared.Progress.{Progress}
-use Rattle.parse.specs.declared.Reading.{Reading}
-use Rattle.parse.specs.declared.Reading.TheVariants.{Past, OutOfRange}
-use Rattle.parse.specs.Answer.{reading_number}
-use Rattle.parse.specs.Parse.{groups_in_range, Refusal, head_width, front, most_data}
-use Rattle.parse.specs.Steps.{SegmentFits, BodyAsks, BodyReads, Load, StepAsks, Stepped}
+use Rattle.parse.specs.declared.Fault as declared
+use Rattle.parse.specs.Answer.{fault_number}
+use Rattle.parse.specs.Parse.{Refusal, head_width, front, most_data}
+use Rattle.parse.specs.Steps.{SegmentFits, BodyAsks, BodyRead, BodyReads, Load, StepAsks, Stepped}
 use Rattle.parse.proofs.Front.{known_small, whole_segment}
 use Rattle.parse.proofs.Groups.{put_two}
 use Rattle.parse.proofs.Heads.{left_bits, field_small, width_small, going, fits_whole, fits_broken}
@@ -29,15 +29,6 @@ most_small v = at (leb v 9)
     at : (t : Bool) → cond t 232 274 ≤ 274
     at true = omega arith
     at false = omega arith
-
--- what a body's number tells
-out_of_range : (t : Bool) → ◌≡◌ {A = ℕ} 15 (cond t 0 15) → t ≡ false
-out_of_range true e = absurd (omega arith)
-out_of_range false e = refl
-
-within_range : (t : Bool) → ◌≡◌ {A = ℕ} 0 (cond t 0 15) → t ≡ true
-within_range true e = refl
-within_range false e = absurd (omega arith)
 
 module _ (codewords : List ℕ) (v : ℕ) (p : Progress) (payload list : List ℕ) (a : StepAsks codewords v p payload list) where
   pub few_codewords : length codewords ≤ 274
@@ -78,27 +69,25 @@ module _ (codewords : List ℕ) (v : ℕ) (p : Progress) (payload list : List �
       the_body : drop b (byte_bits codewords) ≡ drop (head_width v mode) (drop p.cursor.at (byte_bits codewords))
       the_body = ap (λ (n : ℕ). drop n (byte_bits codewords)) e ∙ sym (drop-drop (head_width v mode) p.cursor.at (byte_bits codewords))
 
-      pub step_broken : (after : List ℕ) (r : Reading) (n : ℕ) → BodyReads codewords b mode count p.used payload after r → r ≡ OutOfRange → n ≡ reading_number r
-          → front v (drop p.cursor.at (byte_bits codewords)) ≡ Refusal n
-      step_broken after r n d o e =
-          let k : reading_number r ≡ 15 = ap reading_number o in
-          fits_broken v mode count (drop p.cursor.at (byte_bits codewords)) s a.goes
-          (rw the_body at (out_of_range (groups_in_range mode count (drop b (byte_bits codewords))) (sym k ∙ d.refuses)))
-          ∙ ap Refusal (sym (e ∙ k))
+      pub step_broken : (after : List ℕ) (f : declared.Fault) → BodyReads codewords b mode count p.used payload after (Err f)
+          → front v (drop p.cursor.at (byte_bits codewords)) ≡ Refusal (fault_number f)
+      step_broken after f d =
+          fits_broken v mode count (drop p.cursor.at (byte_bits codewords)) s a.goes (rw the_body at d.0)
+          ∙ ap Refusal (sym (ap fault_number d.1))
 
-      pub step_done : (after : List ℕ) (r : Reading) (next : Cursor) → BodyReads codewords b mode count p.used payload after r → r ≡ Past next
+      pub step_done : (after : List ℕ) (next : Cursor) → BodyRead codewords b mode count p.used payload after next
           → Stepped codewords v p payload list after (set (set list (2 * p.segments) mode) (2 * p.segments + 1) count)
           (record { cursor = next; used = p.used + count; segments = p.segments + 1 })
-      step_done after r next d o = record {
+      step_done after next d = record {
         mode = mode;
         count = count;
         fronts =
             whole_segment v mode count (drop p.cursor.at (byte_bits codewords))
             (fits_whole v mode count (drop p.cursor.at (byte_bits codewords)) s
-            (rw the_body at (within_range (groups_in_range mode count (drop b (byte_bits codewords))) (sym (ap reading_number o) ∙ d.refuses))));
-        place = omega (arith, d.place next o, e);
+            (rw the_body at d.ranged));
+        place = omega (arith, d.place, e);
         uses = refl;
         more = refl;
-        chars = rw the_body at (d.chars next o);
+        chars = rw the_body at (d.chars);
         lists = put_two list (2 * p.segments) mode count (omega (arith, room_pairs, a.numbers));
       }

@@ -1,42 +1,29 @@
--- The paper's number of each answer; what the call `parse` answers and what memory holds then, by cases on what the codewords hold.
-use Rattle.std.specs.Prelude.{List, ◌++◌, ℕ, ◌/◌, length, drop}
-use Rattle.parse.specs.declared.Heading.{Heading}
-use Rattle.parse.specs.declared.Heading.TheVariants.{Found, Refused}
-use Rattle.parse.specs.declared.Reading.{Reading}
-use Rattle.parse.specs.declared.Reading.TheVariants.{Past, OutOfRange}
-use Rattle.parse.specs.declared.Step.{Step}
-use Rattle.parse.specs.declared.Step.TheVariants.{Next, NoStep}
-use Rattle.parse.specs.declared.Parsing.{Parsing}
-use Rattle.parse.specs.declared.Parsing.TheVariants.{Whole, Faulty}
+-- The paper's number of each fault; what the call `parse` answers and what memory holds then, by cases on what the codewords hold.
+use Rattle.std.specs.Prelude.{Result, Ok, Err, List, ◌++◌, ℕ, ◌/◌, length, drop}
+use Rattle.parse.specs.declared.Sizes.{Sizes}
+use Rattle.parse.specs.declared.Fault as declared
+use Rattle.parse.specs.declared.Fault.TheVariants.{UnknownMode, RunsPast, OutOfRange}
 use Rattle.parse.specs.Parse.{Parsed, Message, Fault}
 
--- ---- each case's number in the paper's table, 0 for a case that is no refusal
+-- ---- each fault's number in the paper's table
 
--- 13 and 14
-abbrev pub heading_number : Heading → ℕ
-heading_number (Found h) = 0
-heading_number (Refused n) = n
+-- 13: "unknown mode in the stream". 14: "a count field or segment body runs past the data bits". 15: "a group out of range"
+abbrev pub fault_number : declared.Fault → ℕ
+fault_number UnknownMode = 13
+fault_number RunsPast = 14
+fault_number OutOfRange = 15
 
--- 15: "a group out of range"
-abbrev pub reading_number : Reading → ℕ
-reading_number (Past c) = 0
-reading_number OutOfRange = 15
-
--- 13 to 15
-abbrev pub step_number : Step → ℕ
-step_number (Next p) = 0
-step_number (NoStep n) = n
-
-abbrev pub parsing_number : Parsing → ℕ
-parsing_number (Whole s) = 0
-parsing_number (Faulty n) = n
+-- an answer, with the fault's number in place of the fault
+abbrev pub by_number : Result Sizes declared.Fault → Result Sizes ℕ
+by_number (Ok s) = Ok s
+by_number (Err f) = Err (fault_number f)
 
 -- ---- the call
 
 -- "payload length, number of segments"; a refusal is its number
-abbrev pub answer_of : Parsed → Parsing
-answer_of (Message payload list) = Whole (record { payload = length payload; segments = length list / 2 })
-answer_of (Fault n) = Faulty n
+abbrev pub answer_of : Parsed → Result Sizes ℕ
+answer_of (Message payload list) = Ok (record { payload = length payload; segments = length list / 2 })
+answer_of (Fault n) = Err n
 
 -- "It writes only that many bytes and pairs"; "Output memory is unchanged, also when later segments fail"
 abbrev pub payload_after : Parsed → (memory : List ℕ) → List ℕ

@@ -1,19 +1,15 @@
 -- What each step of the reading is asked and answers. Where a step is refused, memory is of no account: the steps fill buffers of their own.
-use Rattle.std.specs.Prelude.{◌≡◌, Bool, true, false, cond, ◌⊎◌, List, [], ◌∷◌, ◌++◌, ℕ, ◌+◌, ◌*◌, ◌≤◌, leb, length, take, drop}
+use Rattle.std.specs.Prelude.{◌≡◌, Result, Ok, Err, Bool, true, false, cond, ◌⊎◌, List, [], ◌∷◌, ◌++◌, ℕ, ◌+◌, ◌*◌, ◌≤◌, leb, length, take, drop}
 use Rattle.basics.specs.Bits.{byte_bits, number}
 use Rattle.cursor.specs.declared.Cursor.{Cursor}
 use Rattle.tables.specs.Tables.{count_width, most_payload, most_list}
 use Rattle.stream.specs.Stream.{known, body_width}
 use Rattle.parse.specs.declared.Progress.{Progress}
-use Rattle.parse.specs.declared.Step.{Step}
-use Rattle.parse.specs.declared.Step.TheVariants.{Next, NoStep}
-use Rattle.parse.specs.declared.Parsing.{Parsing}
-use Rattle.parse.specs.declared.Parsing.TheVariants.{Whole, Faulty}
-use Rattle.parse.specs.declared.Heading.{Heading}
-use Rattle.parse.specs.declared.Heading.TheVariants.{Found, Refused}
-use Rattle.parse.specs.declared.Reading.{Reading}
-use Rattle.parse.specs.declared.Reading.TheVariants.{Past}
-use Rattle.parse.specs.Answer.{reading_number}
+use Rattle.parse.specs.declared.Head.{Head}
+use Rattle.parse.specs.declared.Sizes.{Sizes}
+use Rattle.parse.specs.declared.Fault as declared
+use Rattle.parse.specs.declared.Fault.TheVariants.{OutOfRange}
+use Rattle.parse.specs.Answer.{fault_number}
 use Rattle.parse.specs.Parse.{characters, groups_in_range, head_width, Segment, Refusal, ends, front, most_data, Message, Fault, message}
 
 -- ---- a segment's head
@@ -26,9 +22,9 @@ pub record SegmentFits (v mode count : ℕ) (bs : List ℕ) : Type 0 where
   pub holds : head_width v mode + body_width mode count ≤ length bs
 
 -- mode, count and the cursor at the body; or what stands at the front is a refusal
-abbrev pub HeadReads : (codewords : List ℕ) (v at : ℕ) → Heading → Type 0
-HeadReads codewords v at (Found h) = SegmentFits v h.mode h.count (drop at (byte_bits codewords)) × (h.body.at ≡ at + head_width v h.mode)
-HeadReads codewords v at (Refused n) = front v (drop at (byte_bits codewords)) ≡ Refusal n
+abbrev pub HeadReads : (codewords : List ℕ) (v at : ℕ) → Result Head declared.Fault → Type 0
+HeadReads codewords v at (Ok h) = SegmentFits v h.mode h.count (drop at (byte_bits codewords)) × (h.body.at ≡ at + head_width v h.mode)
+HeadReads codewords v at (Err f) = front v (drop at (byte_bits codewords)) ≡ Refusal (fault_number f)
 
 -- ---- a body
 
@@ -39,11 +35,16 @@ pub record BodyAsks (codewords : List ℕ) (at mode count used room : ℕ) : Typ
   pub holds : at + body_width mode count ≤ 8 * length codewords
   pub rooms : used + count ≤ room
 
--- 15 where a group is out of range; else its characters stand after those used, and the cursor past it
-pub record BodyReads (codewords : List ℕ) (at mode count used : ℕ) (payload after : List ℕ) (r : Reading) : Type 0 where
-  pub refuses : reading_number r ≡ cond (groups_in_range mode count (drop at (byte_bits codewords))) 0 15
-  pub chars : (c : Cursor) → r ≡ Past c → take (used + count) after ≡ take used payload ++ characters mode count (drop at (byte_bits codewords))
-  pub place : (c : Cursor) → r ≡ Past c → c.at ≡ at + body_width mode count
+-- every group is in range: its characters stand after those used, and the cursor past it
+pub record BodyRead (codewords : List ℕ) (at mode count used : ℕ) (payload after : List ℕ) (c : Cursor) : Type 0 where
+  pub ranged : groups_in_range mode count (drop at (byte_bits codewords)) ≡ true
+  pub chars : take (used + count) after ≡ take used payload ++ characters mode count (drop at (byte_bits codewords))
+  pub place : c.at ≡ at + body_width mode count
+
+-- or a group is out of range
+abbrev pub BodyReads : (codewords : List ℕ) (at mode count used : ℕ) (payload after : List ℕ) → Result Cursor declared.Fault → Type 0
+BodyReads codewords at mode count used payload after (Ok c) = BodyRead codewords at mode count used payload after c
+BodyReads codewords at mode count used payload after (Err f) = (groups_in_range mode count (drop at (byte_bits codewords)) ≡ false) × (f ≡ OutOfRange)
 
 -- ---- one segment
 
@@ -72,14 +73,14 @@ pub record Stepped (codewords : List ℕ) (v : ℕ) (p : Progress) (payload list
       ≡ take p.used payload ++ characters mode count (drop (head_width v mode) (drop p.cursor.at (byte_bits codewords)))
   pub lists : take (2 * p.segments + 2) list' ≡ take (2 * p.segments) list ++ (mode ∷ count ∷ [])
 
-abbrev pub StepReads : (codewords : List ℕ) (v : ℕ) (p : Progress) (payload list payload' list' : List ℕ) → Step → Type 0
-StepReads codewords v p payload list payload' list' (Next q) = Stepped codewords v p payload list payload' list' q
-StepReads codewords v p payload list payload' list' (NoStep n) = front v (drop p.cursor.at (byte_bits codewords)) ≡ Refusal n
+abbrev pub StepReads : (codewords : List ℕ) (v : ℕ) (p : Progress) (payload list payload' list' : List ℕ) → Result Progress declared.Fault → Type 0
+StepReads codewords v p payload list payload' list' (Ok q) = Stepped codewords v p payload list payload' list' q
+StepReads codewords v p payload list payload' list' (Err f) = front v (drop p.cursor.at (byte_bits codewords)) ≡ Refusal (fault_number f)
 
 -- ---- all segments
 
 -- the message stands at the fronts of both buffers; or the first fault
-abbrev pub FillReads : (codewords : List ℕ) (v : ℕ) (payload list : List ℕ) → Parsing → Type 0
-FillReads codewords v payload list (Whole s) =
+abbrev pub FillReads : (codewords : List ℕ) (v : ℕ) (payload list : List ℕ) → Result Sizes declared.Fault → Type 0
+FillReads codewords v payload list (Ok s) =
     (message v codewords ≡ Message (take s.payload payload) (take (2 * s.segments) list)) × (s.payload ≤ most_payload) × (s.segments ≤ 154)
-FillReads codewords v payload list (Faulty n) = message v codewords ≡ Fault n
+FillReads codewords v payload list (Err f) = message v codewords ≡ Fault (fault_number f)

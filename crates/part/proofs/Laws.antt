@@ -16,6 +16,8 @@ use Rattle.basics.proofs.Lists.{map_up_to_suc, joined_append, joined_one}
 use Rattle.stream.specs.Stream.{known, lawful_list, counts}
 use Rattle.part.specs.Part.{start_of, span_of, part_of, nowhere, Fills}
 use Rattle.part.specs.Theorems.{PartInside, PartsJoin}
+use Rattle.std.proofs.lemmas.List.{get_or-drop}
+use Rattle.std.specs.Simd.{first_chunks}
 use Rattle.part.specs.declared.Span.{Span}
 
 pub start_mono : (list : List ℕ) (j k : ℕ) → j ≤ k → start_of list j ≤ start_of list k
@@ -42,12 +44,28 @@ within list n k =
     fit (eqb (length list % 2) 0 && ltb k (length list / 2) && leb (start_of list (suc k)) n) (record { start = start_of list k; len = get_or list (2 * k + 1) 0 }) n
     (λ e. leb-true (start_of list (suc k)) n (last (eqb (length list % 2) 0) (ltb k (length list / 2)) (leb (start_of list (suc k)) n) e))
 
--- the two answers for a segment that the list has
-module _ (list : List ℕ) (n k : ℕ) (even : length list % 2 ≡ 0) (has : k < length list / 2) where
-  pub span_past : n < start_of list (suc k) → span_of list n k ≡ nowhere
-  unfolding span_of
-  span_past h = rw (eq-eqb _ _ even, lt-ltb _ _ has, lt-leb _ _ h)
+-- the count of a segment: the second number of its pair
+pub count_at : (list : List ℕ) (m j : ℕ) → j < m → get_or (get_or (first_chunks 2 m list) j []) 1 0 ≡ get_or list (2 * j + 1) 0
+count_at list zero j h = absurd (omega arith)
+count_at [] (suc m) zero h = refl
+count_at (mode ∷ []) (suc m) zero h = refl
+count_at (mode ∷ count ∷ list) (suc m) zero h = refl
+count_at list (suc m) (suc j) h =
+    let e : 2 * suc j + 1 ≡ 2 + (2 * j + 1) = omega arith in
+    count_at (drop 2 list) m j (omega arith) ∙ get_or-drop 2 list (2 * j + 1) 0 ∙ ap (λ (i : ℕ). get_or list i 0) (sym e)
 
+-- the answer for a segment that would run past the payload
+pub span_past : (list : List ℕ) (n k : ℕ) → n < start_of list (suc k) → span_of list n k ≡ nowhere
+unfolding span_of
+span_past list n k h = rw (lt-leb _ _ h) (neither (eqb (length list % 2) 0) (ltb k (length list / 2)) _)
+  where
+    neither : (a b : Bool) (s : Span) → cond (a && b && false) s nowhere ≡ nowhere
+    neither true true s = refl
+    neither true false s = refl
+    neither false b s = refl
+
+-- and for one that the list has, and that ends within the payload
+module _ (list : List ℕ) (n k : ℕ) (even : length list % 2 ≡ 0) (has : k < length list / 2) where
   pub span_here : start_of list (suc k) ≤ n → span_of list n k ≡ record { start = start_of list k; len = get_or list (2 * k + 1) 0 }
   unfolding span_of
   span_here h = rw (eq-eqb _ _ even, lt-ltb _ _ has, le-leb _ _ h)

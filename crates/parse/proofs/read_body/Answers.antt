@@ -1,5 +1,4 @@
 -- `parse::read_body` meets its contract. The invariant: what is written and what is left make the body.
-use mathlib.Core.Path.{◌∙◌}
 use native.Mathlib.Omega.{arith}
 use Rattle.parse.proofs.Along.{along_none, along_all, turn}
 use Rattle.parse.proofs.read_body.Goals as goal
@@ -15,7 +14,7 @@ take-taken-requires c =
 pub returns-then-group-x : goal.returns-then-group-x
 returns-then-group-x c =
     let t = turn _ _ _ _ _ _ _ _ _ c.loop-done.invariant c.requires.knows c.loop-done-test.true c.next_group-group.result c.next_group-group.ensures in
-    t.broken (omega (arith, c.wide-x.ensures, c.take-taken.ensures.0, c.if-group-x.true))
+    t.broken (omega (arith, c.take-taken.ensures.0, c.if-group-x.true))
 
 pub put_group-requires : goal.put_group-requires
 put_group-requires c =
@@ -35,7 +34,7 @@ loop-done-smaller c =
 pub loop-done-preserved : goal.loop-done-preserved
 loop-done-preserved c =
     let t = turn _ _ _ _ _ _ _ _ _ c.loop-done.invariant c.requires.knows c.loop-done-test.true c.next_group-group.result c.next_group-group.ensures in
-    t.further _ _ _ c.put_group.auto.payload c.take-taken.ensures.1 (c.wide-x.ensures ∙ c.take-taken.ensures.0) c.if-group-x.false c.put_group.ensures
+    t.further _ _ _ c.put_group.auto.payload c.take-taken.ensures.1 c.take-taken.ensures.0 c.if-group-x.false c.put_group.ensures
 
 pub returns : goal.returns
 returns c = along_all _ _ _ _ _ _ _ _ _ c.loop-done.invariant (omega (arith, c.loop-done.invariant.passed, c.loop-done-test.false))

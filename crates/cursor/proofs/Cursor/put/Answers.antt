@@ -3,21 +3,17 @@ use mathlib.Core.Path.{◌≡◌, refl, ap, ◌∙◌}
 use Prim.Native.Nat.{◌+◌, ◌-◌, ◌%◌}
 use native.Mathlib.Omega.{arith}
 use lib.ListN.{length-set}
-use lib.Seq.{paste, paste-zero}
+use lib.Seq.{paste}
 use Rattle.basics.specs.Bits.{bits}
 use Rattle.cursor.proofs.Bits.{at_most_set}
 use Rattle.cursor.proofs.Fields.{put_all}
 use Rattle.cursor.proofs.Parts.{put_part}
 use Rattle.cursor.proofs.Cursor.put.Goals as goal
 
-pub loop-k-init : goal.loop-k-init
-loop-k-init c = let a = c.args in
-    (omega arith, (refl, (λ i l. omega (arith, c.type_inv.out i), paste-zero _ a.self.at (bits a.n a.value))))
-
 pub loop-k-preserved : goal.loop-k-preserved
 loop-k-preserved c = let l = c.loop-k in
     let a = c.args in
-    let m = c.least-m.result in (
+    let m = c.min-m.result in (
       omega arith,
       (
         simp length-set l.invariant.1.0,
@@ -27,9 +23,6 @@ loop-k-preserved c = let l = c.loop-k in
         ),
       ),
     )
-
-pub shape_of-out : goal.shape_of-out
-shape_of-out c = c.loop-k.invariant.1.0
 
 pub returns : goal.returns
 returns c = let l = c.loop-k in
