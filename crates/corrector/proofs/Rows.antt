@@ -150,18 +150,6 @@ lowered_row a i b = record {
       (λ h. let e : get_or (lowered a i) k 0 ≡ 0 = get_or-eq_default (lowered a i) 0 (rw (lowered_length a i) (omega arith)) in omega arith);
 }
 
-pub times_bytes : (a b c : List ℕ) → Row a → ((k : ℕ) → get_or c k 0 < 256) → Row (times_plus a b c)
-unfolding times_plus
-times_bytes a b c ra bc = record {
-  long = build_length _ 32;
-  bytes =
-      λ k.
-      by_cases
-      (dec_lt k 32)
-      (λ h. rw (build_get _ 32 k h) (xor_lt 8 _ _ (mul_lt (get_or a k 0) (get_or b k 0) (ra.bytes k)) (bc k)))
-      (λ h. let e : get_or (times_plus a b c) k 0 ≡ 0 = get_or-eq_default (times_plus a b c) 0 (rw build_length (omega arith)) in omega arith);
-}
-
 -- the sum of the lanes of a product with what is left of s from i on is what the polynomial is on that window
 pub windowed : (a s : List ℕ) (i : ℕ) → Row a → length s ≡ 32 → sum gf256 32 (poly (times_plus a (lowered s i) (filled 0))) ≡ act gf256 32 (poly a) (poly s) i
 unfolding act
