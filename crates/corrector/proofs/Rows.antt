@@ -8,12 +8,11 @@ use native.Mathlib.Decide.{dec_lt}
 use native.Mathlib.Omega.{arith}
 use mir.Val.{Fits}
 use mir.Syntax.{w8}
-use lib.Bits.{bit_xor, xor_lt}
+use lib.Bits.{bit_xor}
 use lib.ListN.{length, get_or, replicate, get_or-eq_default}
 use Rattle.std.specs.List.{fold}
 use Rattle.basics.specs.Build.{build}
 use Rattle.basics.proofs.Build.{build_get, build_length}
-use Rattle.field.proofs.Laws.{mul_lt}
 use Rattle.field.proofs.Byte.{Byte, elt, add, elt_add, elt_mul}
 use Rattle.theory.proofs.Sum.{sum}
 use Rattle.theory.proofs.Run.{act, Below, shift, mix}
