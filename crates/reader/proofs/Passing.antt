@@ -28,9 +28,3 @@ module _ (m : List ℕ) (payload_room list_room : ℕ) where
   then_named v level mask a n f =
       then_plain v a n.plain
       (inr (λ z. z n.copy level mask n.stands, inr (n.one, record { copy = n.copy; level = level; mask = mask; stands = n.stands; then = f })))
-
-  -- and the level is one of the version's
-  pub past_lawful : (v level mask : ℕ) → PastFormats m payload_room list_room v level mask → Lawful v level
-  past_lawful v level mask n =
-      let s = n.plain.sized.square in
-      record { least = s.least; most = s.most; levels = omega (arith, n.stands.levels) }

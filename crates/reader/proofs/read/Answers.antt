@@ -30,10 +30,6 @@ module _ (m payload list : List ℕ) (hp : most_payload ≤ length payload) (hl 
     named : (meta : Meta) → FormatRead v m meta → PastFormats m (length payload) (length list) v meta.level meta.mask
     named meta g = record { plain = plain; copy = g.copy; stands = g.stands; one = g.one }
 
--- no version and level has more data codewords than there is room for
-room : (v level d : ℕ) → Lawful v level → d ≡ data_count v level → d ≤ 274
-room v level d lawful e = subst (λ (x : ℕ). x ≤ 274) (sym e) (data_most v level lawful)
-
 -- ---- the goals
 
 pub returns-then-payload-lt-MOST_PAYLOAD : goal.returns-then-payload-lt-MOST_PAYLOAD
@@ -58,21 +54,6 @@ pub returns-in_err-level : goal.returns-in_err-level
 returns-in_err-level c =
     let p = err_from_is_err_and c.from_residual-in_err-level.result c.from_residual-in_err-level.ensures.1 in
     rw (p.1, p.2) (no_format _ _ _ _ (plain _ _ _ c.if-payload-lt-MOST_PAYLOAD.false c.if-list-lt-MOST_LIST.false _ c.in_ok-v.ensures c.in_ok-check_modules.ensures c.in_ok-check_versions.ensures) _ c.in_err-level.ensures)
-
-pub slice_bounds-held-end : goal.slice_bounds-held-end
-slice_bounds-held-end c = room _ _ _ (past_lawful _ _ _ _ _ _ (named _ _ _ c.if-payload-lt-MOST_PAYLOAD.false c.if-list-lt-MOST_LIST.false _ c.in_ok-v.ensures c.in_ok-check_modules.ensures c.in_ok-check_versions.ensures _ c.in_ok-level.ensures)) c.data-d.ensures
-
-pub slice_bounds-finish-end : goal.slice_bounds-finish-end
-slice_bounds-finish-end c = sym (length-take-le _ _ (room _ _ _ (past_lawful _ _ _ _ _ _ (named _ _ _ c.if-payload-lt-MOST_PAYLOAD.false c.if-list-lt-MOST_LIST.false _ c.in_ok-v.ensures c.in_ok-check_modules.ensures c.in_ok-check_versions.ensures _ c.in_ok-level.ensures)) c.data-d.ensures))
-
-pub finish-requires-clause-m_len : goal.finish-requires-clause-m_len
-finish-requires-clause-m_len c = (
-  c.in_ok-v.ensures.long,
-  (
-    c.in_ok-check_modules.ensures,
-    length-take-le _ _ (room _ _ _ (past_lawful _ _ _ _ _ _ (named _ _ _ c.if-payload-lt-MOST_PAYLOAD.false c.if-list-lt-MOST_LIST.false _ c.in_ok-v.ensures c.in_ok-check_modules.ensures c.in_ok-check_versions.ensures _ c.in_ok-level.ensures)) c.data-d.ensures) ∙ c.data-d.ensures,
-  ),
-)
 
 pub returns : goal.returns
 returns c =
