@@ -2,8 +2,6 @@
 use mathlib.Core.Logic.{inr}
 use mathlib.Core.List.{List}
 use Prim.Native.Nat.{ℕ}
-use native.Mathlib.Omega.{arith}
-use Rattle.tables.specs.Tables.{Lawful}
 use Rattle.scan.specs.Received.{received}
 use Rattle.reader.specs.Reader.{Answer, First, Reads, Above, OtherVersion, NoFormat, TwoFormats, NoCodeword, Formatted, AllStand}
 use Rattle.reader.specs.Theorems.{PastSize, PastVersions, PastFormats}

@@ -1,16 +1,13 @@
 -- `reader::read` meets its contract: each way out is one law of `Telling`, from what the steps on the way ensure.
-use Rattle.std.proofs.Common.{◌≡◌, List, ℕ, ◌≤◌, length, sym, subst, ◌∙◌}
-use Rattle.std.proofs.lemmas.List.{length-take-le}
+use Rattle.std.proofs.Common.{List, ℕ, ◌≤◌, length}
 use Rattle.std.proofs.lemmas.Result.{err_from_is_err_and}
 use Rattle.basics.specs.Lists.{AtMost}
-use Rattle.tables.specs.Tables.{Lawful, most_payload, most_list, data_count}
+use Rattle.tables.specs.Tables.{most_payload, most_list}
 use Rattle.tables.specs.Version.{Square}
-use Rattle.tables.proofs.Rules.{data_most}
 use Rattle.reader.specs.declared.Meta.{Meta}
 use Rattle.reader.specs.Reader.{OtherVersion}
 use Rattle.reader.specs.Steps.{FormatRead}
 use Rattle.reader.specs.Theorems.{PastSize, PastVersions, PastFormats}
-use Rattle.reader.proofs.Passing.{past_lawful}
 use Rattle.reader.proofs.Telling.{small, not_small, no_version, above, not_above, other_version, no_format, finished}
 use Rattle.reader.proofs.read.Goals as goal
 
