@@ -1,4 +1,4 @@
--- The walk that fills: `put_all` in two stretches, its length and count, and what it leaves over a version's kinds: `filled_all`.
+-- The walk that fills: `put_all` in two stretches, its count, and what it leaves over a version's kinds: `filled_all`.
 use mathlib.Core.Path.{◌≡◌, refl, sym, ap, ◌∙◌}
 use mathlib.Core.Logic.{◌⊎◌, inl, inr, ⊎_elim}
 use mathlib.Core.Bool.{Bool, true, false, cond}
@@ -40,17 +40,6 @@ module _ (bs : List ℕ) where
   put_join place a zero f = rw add-zero
   put_join place a (suc b) f = rw (add-suc, put_join place a b f)
 
-  put_if_length : (t : Bool) (m : List ℕ) (n p : ℕ) → length (put_if t bs m n p).matrix ≡ length m
-  put_if_length true m n p = length-set m p (2 + get_or bs n 0)
-  put_if_length false m n p = refl
-
-  pub put_all_length : (place : ℕ → ℕ) (k : ℕ) (f : Filling) → length (put_all bs place k f).matrix ≡ length f.matrix
-  unfolding put put_all
-  put_all_length place zero f = refl
-  put_all_length place (suc k) f =
-      let g = put_all bs place k f in
-      put_if_length (eqb (get_or g.matrix (place k) 0) 2) g.matrix g.used (place k) ∙ put_all_length place k f
-
   put_if_used : (t : Bool) (m : List ℕ) (n p : ℕ) → (put_if t bs m n p).used ≤ suc n
   put_if_used true m n p = omega arith
   put_if_used false m n p = omega arith
@@ -63,9 +52,6 @@ module _ (bs : List ℕ) where
       omega (arith, put_if_used (eqb (get_or g.matrix (place k) 0) 2) g.matrix g.used (place k), put_all_used place k f)
 
   -- the same of a state that is known to be so filled
-  pub kept_length : (place : ℕ → ℕ) (k : ℕ) (m m₀ : List ℕ) (n n₀ : ℕ) → filling m n ≡ put_all bs place k (filling m₀ n₀) → length m ≡ length m₀
-  kept_length place k m m₀ n n₀ e = ap (λ (f : Filling). length f.matrix) e ∙ put_all_length place k (filling m₀ n₀)
-
   pub few_used : (place : ℕ → ℕ) (k : ℕ) (m m₀ : List ℕ) (n n₀ : ℕ) → filling m n ≡ put_all bs place k (filling m₀ n₀) → n ≤ n₀ + k
   few_used place k m m₀ n n₀ e = rw (ap (λ (f : Filling). f.used) e) (put_all_used place k (filling m₀ n₀))
 
@@ -93,15 +79,15 @@ pub bit_past : (xs : List ℕ) (n : ℕ) → length xs ≤ n / 8 → get_or (byt
 bit_past xs n h = get_or-eq_default (byte_bits xs) 0 (rw (length_byte_bits xs) (omega arith))
 
 -- the code's places are those that the pair meets
-module _ (v q t s row right p : ℕ) (e : s ≡ side v) (few : t < s) (r : row ≡ cond (eqb (q % 2) 0) (s - 1 - t) t) (c : right ≡ pair_column (side v) q) (h : p ≡ row * s + right) where
+module _ (v q t s row right p : ℕ) (e : s ≡ side v) (few : t < s) (r : row ≡ cond (eqb (q % 2) 0) (s - 1 - t) t) (c : right ≡ pair_column s q) (h : p ≡ row * s + right) where
   pub first_place : p ≡ pair_place (side v) q (2 * t)
   first_place =
-      let there : pair_place s q (2 * t + 0) ≡ row * s + right = pair_place_lem s q t 0 few (omega arith) ∙ rw (r, c, e, sub-zero) in
+      let there : pair_place s q (2 * t + 0) ≡ row * s + right = pair_place_lem s q t 0 few (omega arith) ∙ rw (r, c, sub-zero) in
       h ∙ sym there ∙ rw (e, add-zero)
 
   pub second_place : 1 ≤ right → p - 1 ≡ pair_place (side v) q (suc (2 * t))
   second_place l =
-      let there : pair_place s q (2 * t + 1) ≡ row * s + (right - 1) = pair_place_lem s q t 1 few (omega arith) ∙ rw (r, c, e) in
+      let there : pair_place s q (2 * t + 1) ≡ row * s + (right - 1) = pair_place_lem s q t 1 few (omega arith) ∙ rw (r, c) in
       let back : p - 1 ≡ row * s + (right - 1) = omega arith in
       back ∙ sym there ∙ rw (e, add-one)
 

@@ -1,5 +1,5 @@
 -- What is laid once for all masks, and what finishes it for one: a number for each module.
-use Rattle.std.specs.Prelude.{Bool, true, false, cond, ◌&&◌, ◌||◌, List, map, ℕ, zero, suc, ◌+◌, ◌-◌, ◌*◌, ◌/◌, ◌%◌, leb, eqb, length, get_or, set}
+use Rattle.std.specs.Prelude.{◌≡◌, Bool, true, false, cond, ◌&&◌, ◌||◌, List, map, ℕ, zero, suc, ◌+◌, ◌-◌, ◌*◌, ◌/◌, ◌%◌, ◌<◌, leb, eqb, length, get_or, set}
 use Rattle.std.specs.Int.Bits.{bit_xor}
 use Rattle.basics.specs.Bits.{bit_of, byte_bits, low_first}
 use Rattle.basics.specs.Lists.{up_to}
@@ -47,6 +47,10 @@ unfoldable pub tinted : (plain turned row j x : ℕ) → ℕ
 tinted plain turned row j x = bit_of (cond (eqb (bit_of row j) 0) plain turned) x
 
 -- ---- what is stored, one module a turn of a walk
+
+-- at each of the first n turns the only answer is f's
+abbrev pub Gives : (answer : ℕ → ℕ → Type 0) (n : ℕ) (f : ℕ → ℕ) → Type 0
+Gives answer n f = (t x : ℕ) → t < n → answer t x → x ≡ f t
 
 -- module t of a square of side w, row by row
 unfoldable pub square_place : (s top left w t : ℕ) → ℕ

@@ -15,9 +15,6 @@ use Rattle.basics.proofs.Sums.{sum_same, sum_mono}
 use Rattle.tables.specs.Tables.{Lawful, total, room, block_count, check_count, block_length}
 use Rattle.tables.proofs.Rules.{room_most, checks_most, blocks_most}
 use Rattle.corrector.specs.declared.Counts.{Counts}
-use Rattle.corrector.specs.declared.Correction.{Correction}
-use Rattle.corrector.specs.declared.Correction.TheVariants.{Stood, NoneStands}
-use Rattle.corrector.specs.Correct.{Corrected}
 use Rattle.code.specs.Code.{Stands, differing}
 use Rattle.blocks.specs.Blocks.{block_of, block_offset}
 use Rattle.blocks.proofs.Dealing.{offset_next, offset_end}
@@ -196,7 +193,6 @@ pub record Turn : Type 0 where
   pub n : ℕ
   pub bound : ℕ
   pub long : ℕ
-  pub verdict : Correction
   pub lawful : Lawful v level
   pub mending : Mending v level w_0 f a b w t e
   pub is_block : b < block_count v level
@@ -204,25 +200,24 @@ pub record Turn : Type 0 where
   pub checks_are : n ≡ check_count v level
   pub bound_is : bound ≡ room v level
   pub long_is : long ≡ block_length v level b
-  pub given : Corrected n bound (take (a + long - a) (drop a w)) (take (a + long - a) (drop a f)) ys verdict
 
 module _ (turn : Turn) where
-  open turn use {v, level, w_0, f, w, ys, a, b, t, e, n, bound, long, verdict, lawful, mending, is_block, whole, checks_are, bound_is, long_is, given}
+  open turn use {v, level, w_0, f, w, ys, a, b, t, e, n, bound, long, lawful, mending, is_block, whole, checks_are, bound_is, long_is}
 
   -- the part without the difference in it
-  plain : Corrected (check_count v level) (room v level) (take (block_length v level b) (drop a w)) (take (block_length v level b) (drop a f)) ys verdict
-  plain =
-      subst₂ (λ (x y : ℕ). Corrected (check_count v level) (room v level) (take x (drop a w)) (take y (drop a f)) ys verdict)
-      (add-sub_cancel_left a long ∙ long_is) (add-sub_cancel_left a long ∙ long_is)
-      (subst₂ (λ (x y : ℕ). Corrected x y (take (a + long - a) (drop a w)) (take (a + long - a) (drop a f)) ys verdict) checks_are bound_is given)
+  part_is : a + long - a ≡ block_length v level b
+  part_is = add-sub_cancel_left a long ∙ long_is
 
-  module _ (k : Counts) (q : verdict ≡ Stood k) where
+  abbrev pub Given : (d : List ℕ) (x y : ℕ) → Type 0
+  Given d x y = Stands n bound (take (a + long - a) (drop a w)) (take (a + long - a) (drop a f)) d x y
+
+  module _ (k : Counts) (given : Given ys k.differing k.unreadable) where
     stands : Stands (check_count v level) (room v level) (take (block_length v level b) (drop a w)) (take (block_length v level b) (drop a f)) ys k.differing k.unreadable
-    stands = subst (Corrected (check_count v level) (room v level) (take (block_length v level b) (drop a w)) (take (block_length v level b) (drop a f)) ys) q plain
+    stands = rw (part_is, checks_are, bound_is) at given
 
     pub turn_stood : Mending v level w_0 f (a + long) (b + 1) (put_mid a (a + long - a) w ys) (t + k.differing) (e + k.unreadable)
     turn_stood =
-        subst₂ (λ (x y : ℕ). Mending v level w_0 f (a + x) (b + 1) (put_mid a y w ys) (t + k.differing) (e + k.unreadable)) (sym long_is) (sym (add-sub_cancel_left a long ∙ long_is))
+        rw (part_is, long_is)
         (mending_more v level lawful w_0 f w ys a b t e k.differing k.unreadable mending is_block whole stands)
 
     pub turn_small : (k.differing ≤ 30) × (k.unreadable ≤ 30)
@@ -235,9 +230,7 @@ module _ (turn : Turn) where
       omega (arith, turn_small.1, mending.unreadable_small, is_block, blocks_most v level lawful),
     )
 
-  module _ (q : verdict ≡ NoneStands) where
-    pub turn_none : (d : List ℕ) (x y : ℕ) → Standing v level w_0 f b d x y → ⊥
-    turn_none d x y z =
-        (subst (Corrected (check_count v level) (room v level) (take (block_length v level b) (drop a w)) (take (block_length v level b) (drop a f)) ys) q plain).1 d x y
-        (subst₂ (λ (p q : List ℕ). Stands (check_count v level) (room v level) p q d x y)
-        (sym (part_of v level a b w mending.start ∙ mending.rest b (omega arith))) (sym (part_of v level a b f mending.start)) z)
+  pub turn_none : ((d : List ℕ) (x y : ℕ) → Given d x y → ⊥) → (d : List ℕ) (x y : ℕ) → Standing v level w_0 f b d x y → ⊥
+  turn_none none d x y z =
+      none d x y
+      (rw (part_is, checks_are, bound_is, part_of v level a b w mending.start, mending.rest b (omega arith), part_of v level a b f mending.start) z)

@@ -1,6 +1,6 @@
 -- A matrix has at most one answer, since at most one codeword stands for a block and at most one word for a format copy:
 -- each check passes or not, and what a later check rests on is fixed by the earlier ones.
-use mathlib.Core.Path.{◌≡◌, sym, ap, ap₂, subst, subst₂, ◌∙◌}
+use mathlib.Core.Path.{◌≡◌, refl, sym, ap, ap₂, subst, subst₂, ◌∙◌}
 use mathlib.Core.Logic.{◌≢◌, inl, inr, by_cases}
 use mathlib.Core.List.{List, map}
 use Prim.Native.Nat.{ℕ, zero, suc, ◌≤◌, ◌<◌}
@@ -20,7 +20,13 @@ use Rattle.parse.specs.Parse.{message}
 use Rattle.blocks.specs.Blocks.{gathered, data_of}
 use Rattle.scan.specs.Received.{received}
 use Rattle.reader.specs.Reader.{Answer, decided, First, Reads, Versioned, Formatted, FormatStands, AllStand, Above, OtherVersion, NoFormat, TwoFormats, NoCodeword, block_word, block_flags, payload_after, list_after}
-use Rattle.reader.specs.Answers.{answered_of}
+use Rattle.reader.specs.Answers.{answered_of, by_number}
+use Rattle.reader.specs.Refusals.{refusal_number}
+use Rattle.reader.specs.declared.Reading.{Reading}
+use Rattle.reader.specs.declared.Refusal.{Refusal}
+use Rattle.reader.specs.declared.Refusal.TheVariants as refused
+use Rattle.parse.specs.declared.Fault.TheVariants as fault
+use Rattle.std.specs.Prelude.{Result, Ok, Err, cond, eqb}
 use Rattle.reader.specs.Theorems.{ReadsOnly, AnswersOnly}
 
 first_only : {F L M : Type 0} {n : ℕ} {a b : Answer} → First F n a L → First F n b M → (L → M → a ≡ b) → a ≡ b
@@ -103,11 +109,46 @@ pub reads_only : ReadsOnly
 unfolding Reads
 reads_only m payload_room list_room a b x y = first_only x y (λ p q. first_only p q (versioned_only m a b))
 
+-- the refusal with this number
+refusal_at : ℕ → Refusal
+refusal_at n =
+    cond (eqb n 16) refused.SmallBuffer
+    (cond (eqb n 7) refused.NoVersion
+    (cond (eqb n 8) refused.AboveTwo
+    (cond (eqb n 9) refused.OtherVersion
+    (cond (eqb n 10) refused.NoFormat
+    (cond (eqb n 11) refused.TwoFormats
+    (cond (eqb n 12) refused.NoCodeword
+    (cond (eqb n 13) (refused.Stream fault.UnknownMode)
+    (cond (eqb n 14) (refused.Stream fault.RunsPast) (refused.Stream fault.OutOfRange)))))))))
+
+numbered : (r : Refusal) → refusal_at (refusal_number r) ≡ r
+unfolding refusal_at
+numbered refused.SmallBuffer = refl
+numbered refused.NoVersion = refl
+numbered refused.AboveTwo = refl
+numbered refused.OtherVersion = refl
+numbered refused.NoFormat = refl
+numbered refused.TwoFormats = refl
+numbered refused.NoCodeword = refl
+numbered (refused.Stream fault.UnknownMode) = refl
+numbered (refused.Stream fault.RunsPast) = refl
+numbered (refused.Stream fault.OutOfRange) = refl
+
+-- no two refusals have one number
+pub by_number_only : (r r₁ : Result Reading Refusal) → by_number r ≡ by_number r₁ → r ≡ r₁
+by_number_only (Ok x) (Ok y) e = cc
+by_number_only (Ok x) (Err y) e = cc
+by_number_only (Err x) (Ok y) e = cc
+by_number_only (Err x) (Err y) e =
+    let same : refusal_number x ≡ refusal_number y = cc in
+    ap Err (sym (numbered x) ∙ ap refusal_at same ∙ numbered y)
+
 -- .. and so has what the call answers and leaves in memory
 pub answers_only : AnswersOnly
 answers_only m payload list r r₁ payload' payload₁ list' list₁ x y =
     let e = reads_only m (length payload) (length list) x.answer y.answer x.reads y.reads in (
-      x.says ∙ ap answered_of e ∙ sym y.says,
+      by_number_only r r₁ (x.says ∙ ap answered_of e ∙ sym y.says),
       x.payload_memory ∙ ap (λ (a : Answer). payload_after a payload) e ∙ sym y.payload_memory,
       x.list_memory ∙ ap (λ (a : Answer). list_after a list) e ∙ sym y.list_memory,
     )

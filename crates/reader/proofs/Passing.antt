@@ -1,23 +1,10 @@
--- A step that was passed leaves its fault out, and the steps that were passed leave the answer to the later ones.
-use mathlib.Core.Logic.{inl, inr}
+-- The steps that were passed leave the answer to the later ones.
+use mathlib.Core.Logic.{inr}
 use mathlib.Core.List.{List}
-use Prim.Native.Nat.{ℕ, suc}
-use native.Mathlib.Omega.{arith}
-use Rattle.tables.specs.Tables.{Lawful}
+use Prim.Native.Nat.{ℕ}
 use Rattle.scan.specs.Received.{received}
 use Rattle.reader.specs.Reader.{Answer, First, Reads, Above, OtherVersion, NoFormat, TwoFormats, NoCodeword, Formatted, AllStand}
-use Rattle.reader.specs.Steps.{ByNumber}
 use Rattle.reader.specs.Theorems.{PastSize, PastVersions, PastFormats}
-
--- ---- a step's number says which of the two it is
-
-pub step_passed : {F P : Type 0} (n : ℕ) → ByNumber 0 (suc n) F P → P
-step_passed n (inl p) = absurd (let z = p.0 in omega arith)
-step_passed n (inr p) = p.1
-
-pub step_refused : {F P : Type 0} (n : ℕ) → ByNumber (suc n) (suc n) F P → F
-step_refused n (inl p) = p.1
-step_refused n (inr p) = absurd (let z = p.0 in omega arith)
 
 -- ---- an answer that is given by the checks from 8 on
 
@@ -39,9 +26,3 @@ module _ (m : List ℕ) (payload_room list_room : ℕ) where
   then_named v level mask a n f =
       then_plain v a n.plain
       (inr (λ z. z n.copy level mask n.stands, inr (n.one, record { copy = n.copy; level = level; mask = mask; stands = n.stands; then = f })))
-
-  -- and the level is one of the version's
-  pub past_lawful : (v level mask : ℕ) → PastFormats m payload_room list_room v level mask → Lawful v level
-  past_lawful v level mask n =
-      let s = n.plain.sized.square in
-      record { least = s.least; most = s.most; levels = omega (arith, n.stands.levels) }

@@ -4,6 +4,7 @@ use mathlib.Core.Path.{◌≡◌, refl}
 use mathlib.Core.Logic.Dec
 use mathlib.Core.Logic.{◌≢◌, ◌⊎◌, inl, inr, by_cases}
 use mathlib.Core.List.{List, []}
+use Rattle.std.specs.Prelude.{Option, Some, None, Result, Ok, Err}
 use Prim.Native.Nat.{ℕ, ◌+◌, ◌*◌, ◌≤◌, ◌<◌}
 use native.Mathlib.Decide.{ℕ_discrete, dec_le, dec_lt, map_dec}
 use native.Mathlib.Omega.{arith}
@@ -15,15 +16,13 @@ use Rattle.tables.specs.Version.{Square}
 use Rattle.code.specs.Code.{value, differing, unreadable, Stands}
 use Rattle.words.specs.Words.{format_word, version_word, level_of, mask_of, Near}
 use Rattle.words.specs.Found.{FormatFound}
-use Rattle.words.specs.declared.Found.{Found}
-use Rattle.words.specs.declared.Found.TheVariants.{Word, NoWord}
 use Rattle.parse.specs.Parse.{message}
 use Rattle.blocks.specs.Blocks.{data_of}
 use Rattle.modules.specs.Modules.{format_places, version_places}
 use Rattle.scan.specs.Received.{copied, readable, received}
 use Rattle.reader.specs.declared.Meta.{Meta}
-use Rattle.reader.specs.declared.Format.{Format}
-use Rattle.reader.specs.declared.Format.TheVariants.{Word as Formed, NoWord as NotFormed}
+use Rattle.reader.specs.declared.Refusal.{Refusal}
+use Rattle.reader.specs.declared.Refusal.TheVariants as refused
 use Rattle.reader.specs.Reader.{Answer, Refused, decided, First, Reads, Versioned, Formatted, AllStand, Small, NoVersion, Above, OtherVersion, NoFormat, TwoFormats, NoCodeword, BlockStands, block_word, block_flags}
 use Rattle.reader.specs.Steps.{FormatsRead}
 use Rattle.reader.specs.Theorems.{ReadsSome}
@@ -103,30 +102,30 @@ near : (k copy readable word : ℕ) → Dec (Near k copy readable word)
 unfolding Near
 near k copy readable word = dec_le _ 6
 
-format_found : (copy readable : ℕ) → (f : Found) × FormatFound copy readable f
+format_found : (copy readable : ℕ) → (f : Option ℕ) × FormatFound copy readable f
 format_found copy readable = by (search 32 (λ b. Near 15 copy readable (format_word b)) (λ b. near 15 copy readable (format_word b)))
   where
-    by : SomeOrNone 32 (λ b. Near 15 copy readable (format_word b)) → (f : Found) × FormatFound copy readable f
-    by (inl s) = (Word s.0, record { lawful = s.1; near = s.2 })
-    by (inr none) = (NoWord, λ b k. none b k.lawful k.near)
+    by : SomeOrNone 32 (λ b. Near 15 copy readable (format_word b)) → (f : Option ℕ) × FormatFound copy readable f
+    by (inl s) = (Some s.0, record { lawful = s.1; near = s.2 })
+    by (inr none) = (None, λ b k. none b k.lawful k.near)
 
-formats : (m : List ℕ) (v : ℕ) → (f : Format) × FormatsRead v m f
+formats : (m : List ℕ) (v : ℕ) → (f : Result Meta Refusal) × FormatsRead v m f
 formats m v = by (one 0).0 (one 1).0 (one 0).1 (one 1).1
   where
-    one : (copy : ℕ) → (f : Found) × FormatFound (copied m (format_places v copy)) (readable m (format_places v copy)) f
+    one : (copy : ℕ) → (f : Option ℕ) × FormatFound (copied m (format_places v copy)) (readable m (format_places v copy)) f
     one copy = format_found (copied m (format_places v copy)) (readable m (format_places v copy))
 
     meta : ℕ → Meta
     meta x = record { level = level_of x; mask = mask_of x }
 
-    by : (f g : Found) → FormatFound (copied m (format_places v 0)) (readable m (format_places v 0)) f → FormatFound (copied m (format_places v 1)) (readable m (format_places v 1)) g
-        → (f : Format) × FormatsRead v m f
-    by NoWord NoWord p q = (NotFormed 10, neither m v NoWord NoWord p q refl refl)
-    by NoWord (Word y) p q = (Formed (meta y), by_second m v NoWord (Word y) p q y (meta y) refl refl (refl, refl))
-    by (Word x) NoWord p q = (Formed (meta x), by_first m v (Word x) NoWord p q x (meta x) refl refl (refl, refl))
-    by (Word x) (Word y) p q =
-        by_cases (ℕ_discrete x y) (λ e. (Formed (meta x), by_both m v (Word x) (Word y) p q x y (meta x) refl refl e (refl, refl)))
-        (λ d. (NotFormed 11, different m v (Word x) (Word y) p q x y refl refl d))
+    by : (f g : Option ℕ) → FormatFound (copied m (format_places v 0)) (readable m (format_places v 0)) f → FormatFound (copied m (format_places v 1)) (readable m (format_places v 1)) g
+        → (f : Result Meta Refusal) × FormatsRead v m f
+    by None None p q = (Err refused.NoFormat, neither m v p q)
+    by None (Some y) p q = (Ok (meta y), by_second m v y (meta y) p q (refl, refl))
+    by (Some x) None p q = (Ok (meta x), by_first m v x (meta x) p q (refl, refl))
+    by (Some x) (Some y) p q =
+        by_cases (ℕ_discrete x y) (λ e. (Ok (meta x), by_both m v x y (meta x) p q e (refl, refl)))
+        (λ d. (Err refused.TwoFormats, different m v x y p q d))
 
 -- the copies of the version word
 other_version : (m : List ℕ) (v : ℕ) → Dec (OtherVersion v m)
@@ -161,10 +160,10 @@ first_some F n L (no q) later = let w = later q in (w.0, inr (q, w.1))
 formatted_some : (m : List ℕ) (v : ℕ) → (a : Answer) × First (NoFormat v m) 10 a (First (TwoFormats v m) 11 a (Formatted v m a))
 formatted_some m v = by (formats m v).0 (formats m v).1
   where
-    by : (f : Format) → FormatsRead v m f → (a : Answer) × First (NoFormat v m) 10 a (First (TwoFormats v m) 11 a (Formatted v m a))
-    by (NotFormed k) (inl r) = (Refused 10, inl (r.1, refl))
-    by (NotFormed k) (inr r) = (Refused 11, inr (r.1, inl (r.2, refl)))
-    by (Formed w) r =
+    by : (f : Result Meta Refusal) → FormatsRead v m f → (a : Answer) × First (NoFormat v m) 10 a (First (TwoFormats v m) 11 a (Formatted v m a))
+    by (Err k) (inl r) = (Refused 10, inl (r.1, refl))
+    by (Err k) (inr r) = (Refused 11, inr (r.1, inl (r.2, refl)))
+    by (Ok w) r =
         let c = stand_some v w.level w.mask (received v w.mask m) in (
           c.0,
           inr (

@@ -1,4 +1,5 @@
 pub mod Answers
 pub mod Reader
+pub mod Refusals
 pub mod Steps
 pub mod Theorems

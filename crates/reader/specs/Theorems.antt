@@ -1,12 +1,13 @@
 -- What is shown of the reader's answers beside the contract of `read`, each a statement with a name.
-use Rattle.std.specs.Prelude.{◌≡◌, ◌↔◌, List, ℕ, ◌≤◌, ◌<◌, length}
+use Rattle.std.specs.Prelude.{◌≡◌, ◌↔◌, Result, List, ℕ, ◌≤◌, ◌<◌, length}
 use Rattle.basics.specs.Bits.{byte_bits}
 use Rattle.tables.specs.Tables.{block_count}
 use Rattle.tables.specs.Version.{Square}
 use Rattle.parse.specs.Faults.{UnknownMode, RunsPast, BadGroup, FirstFault}
 use Rattle.blocks.specs.Blocks.{data_of}
 use Rattle.scan.specs.Received.{received}
-use Rattle.reader.specs.declared.Answered.{Answered}
+use Rattle.reader.specs.declared.Reading.{Reading}
+use Rattle.reader.specs.declared.Refusal.{Refusal}
 use Rattle.reader.specs.Answers.{Answers}
 use Rattle.reader.specs.Reader.{Answer, Refused, Reads, Small, NoVersion, Above, OtherVersion, NoFormat, TwoFormats, NoCodeword, FormatStands, BlockStands}
 
@@ -20,7 +21,7 @@ ReadsOnly = (m : List ℕ) (payload_room list_room : ℕ) (a b : Answer) → Rea
 
 -- no two different answers, nor two contents of memory, satisfy the promise of `read`
 abbrev pub AnswersOnly : Type 0
-AnswersOnly = (m payload list : List ℕ) (r r₁ : Answered) (payload' payload₁ list' list₁ : List ℕ)
+AnswersOnly = (m payload list : List ℕ) (r r₁ : Result Reading Refusal) (payload' payload₁ list' list₁ : List ℕ)
     → Answers m payload list r payload' list' → Answers m payload list r₁ payload₁ list₁ → (r ≡ r₁) × (payload' ≡ payload₁) × (list' ≡ list₁)
 
 -- the reader's numbers are 7 to 16

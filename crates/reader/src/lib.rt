@@ -1,77 +1,96 @@
-// The answer that a matrix gets: a straight line of steps, each an enum; the first fault leaves.
+// The answer that a matrix gets: a straight line of steps, each a `Result`; the first refusal leaves.
 #![tactic(auto)]
 
-ghost use Rattle.std.specs.Prelude.{◌≡◌, ◌⊎◌, ◌*◌, ◌≤◌, ◌<◌, length};
+ghost use Rattle.std.specs.Prelude.{◌≡◌, ◌*◌, ◌≤◌, ◌<◌, length};
 ghost use Rattle.basics.specs.Lists.{AtMost};
 ghost use Rattle.tables.specs.Tables.{Lawful, side, total, data_count, last_version, most_payload, most_list};
 ghost use Rattle.modules.specs.Modules.{format_places, version_places};
 ghost use Rattle.words.specs.Words.{level_of, mask_of};
 ghost use Rattle.words.specs.Found.{FormatFound, VersionFound};
 ghost use Rattle.scan.specs.Received.{copied, readable, received};
-ghost use Rattle.reader.specs.Steps.{SideRead, ModulesRead, BlocksMended, VersionCopy, VersionsRead, format_number, FormatsRead, Collected, DataMended};
+ghost use Rattle.reader.specs.declared.Refusal.TheVariants.{Stream};
+ghost use Rattle.reader.specs.Refusals.{refusal_number};
+ghost use Rattle.reader.specs.Steps.{SideRead, ModulesRead, BlocksMended, VersionCopy, VersionsRead, FormatsRead, Collected, DataMended};
 ghost use Rattle.reader.specs.Answers.{Answers, Finished};
 
-use corrector::Correction;
-use parse::Parsing;
-use tables::{Fixed, MOST_CODEWORDS, MOST_DATA, MOST_LIST, MOST_PAYLOAD};
-use words::Found;
+use corrector::Counts;
+use parse::Fault;
+use tables::{MOST_CODEWORDS, MOST_DATA, MOST_LIST, MOST_PAYLOAD};
 
-// The version that the side length fixes.
-fn check_side(m: &[u8]) -> Fixed
-    ensures { SideRead m.now result }
-{
-    tables::version_of(m.len())
+// Why a matrix is refused.
+#[derive(Clone, Copy, Debug, PartialEq, Eq)]
+pub enum Refusal {
+    // The payload or the list has too little room for what a symbol may hold.
+    SmallBuffer,
+    // No version has a matrix of this length.
+    NoVersion,
+    // A module is above 2.
+    AboveTwo,
+    // A version copy stands for another version.
+    OtherVersion,
+    // Neither format copy stands for anything.
+    NoFormat,
+    // The format copies stand for different words.
+    TwoFormats,
+    // A block has no codeword within its bound.
+    NoCodeword,
+    // The stream has a fault.
+    Stream(Fault),
 }
 
-// Every module is light, dark or unreadable; or one is above 2.
-#[derive(Clone, Copy)]
-pub enum Checked {
-    Fine,
-    TooHigh,
+impl From<Fault> for Refusal {
+    ghost from_gives = { λ fault refusal. refusal ≡ Stream fault };
+
+    fn from(fault: Fault) -> Refusal {
+        Refusal::Stream(fault)
+    }
+}
+
+impl Refusal {
+    // Its number.
+    pub fn number(self) -> u8
+        ensures { result ≡ refusal_number self }
+    {
+        match self {
+            Refusal::SmallBuffer => 16,
+            Refusal::NoVersion => 7,
+            Refusal::AboveTwo => 8,
+            Refusal::OtherVersion => 9,
+            Refusal::NoFormat => 10,
+            Refusal::TwoFormats => 11,
+            Refusal::NoCodeword => 12,
+            Refusal::Stream(fault) => fault.number(),
+        }
+    }
+}
+
+// The version that the side length fixes.
+fn check_side(m: &[u8]) -> Result<usize, Refusal>
+    ensures { SideRead m.now result }
+{
+    tables::version_of(m.len()).ok_or(Refusal::NoVersion)
 }
 
 // The largest module.
 const UNREADABLE: u8 = 2;
 
-// The larger of two modules.
-fn larger(a: u8, b: u8) -> u8
-    ensures { (a ≤ result) × ((b ≤ result) × ((result ≡ a) ⊎ (result ≡ b))) }
-{
-    if a < b { b } else { a }
-}
-
-// Looks at every module.
-fn check_modules(m: &[u8]) -> Checked
+// Every module is light, dark or unreadable; or one is above 2.
+fn check_modules(m: &[u8]) -> Result<(), Refusal>
     ensures { ModulesRead m.now result }
 {
     let mut most: u8 = 0;
-    let mut k: usize = 0;
-    while k < m.len() {
-        most = larger(most, m[k]);
-        k += 1;
+    for module in m {
+        most = most.max(*module);
     }
     if UNREADABLE < most {
-        Checked::TooHigh
-    } else {
-        Checked::Fine
+        return Err(Refusal::AboveTwo);
     }
+    Ok(())
 }
 
-// Over all blocks, the readable codewords that differed and the unreadable ones.
-#[derive(Clone, Copy)]
-pub struct Sums {
-    pub differing: usize,
-    pub unreadable: usize,
-}
-
-#[derive(Clone, Copy)]
-pub enum Mended {
-    Within(Sums),
-    Beyond,
-}
-
-// Corrects each of the blocks, which stand one after the other; the first that has no codeword within its bound leaves.
-fn mend_blocks(words: &mut [u8], flags: &[u8], v: usize, level: usize) -> Mended
+// Corrects each of the blocks, which stand one after the other; the first that has no codeword within its bound leaves. Answers the sums over all
+// blocks of the readable codewords that differed and of the unreadable ones.
+fn mend_blocks(words: &mut [u8], flags: &[u8], v: usize, level: usize) -> Result<Counts, Refusal>
     requires { Lawful v level × ((length words.old ≡ total v) × (length flags.now ≡ total v)) }
     ensures { BlocksMended v level words.old flags.now words.new result }
 {
@@ -81,39 +100,23 @@ fn mend_blocks(words: &mut [u8], flags: &[u8], v: usize, level: usize) -> Mended
     let mut differing: usize = 0;
     let mut unreadable: usize = 0;
     let mut a: usize = 0;
-    let mut b: usize = 0;
-    while b < count {
+    for b in 0..count {
         let e = a + tables::block_length(v, level, b);
-        let verdict = corrector::correct(&mut words[a..e], &flags[a..e], n, room);
-        let Correction::Stood(k) = verdict else {
-            return Mended::Beyond;
+        let Some(k) = corrector::correct(&mut words[a..e], &flags[a..e], n, room) else {
+            return Err(Refusal::NoCodeword);
         };
         differing += k.differing;
         unreadable += k.unreadable;
         a = e;
-        b += 1;
     }
-    Mended::Within(Sums {
+    Ok(Counts {
         differing,
         unreadable,
     })
 }
 
-// Whether a version copy stands for another version.
-#[derive(Clone, Copy)]
-pub enum Copies {
-    Agreeing,
-    Other,
-}
-
-fn wide(x: u32) -> usize
-    ensures { result ≡ x }
-{
-    x as usize
-}
-
 // What a copy of the version word stands for.
-fn version_found(m: &[u8], v: usize, copy: usize) -> Found
+fn version_found(m: &[u8], v: usize, copy: usize) -> Option<u32>
     requires { (7 ≤ v) × ((v ≤ last_version) × ((copy < 2) × (length m.now ≡ side v * side v))) }
     ensures { VersionFound (copied m.now (version_places v copy)) (readable m.now (version_places v copy)) result }
 {
@@ -121,38 +124,27 @@ fn version_found(m: &[u8], v: usize, copy: usize) -> Found
     words::find_version(c.bits, c.readable)
 }
 
-// Whether a copy of the version word stands for another version than the side fixes.
-fn check_copy(m: &[u8], v: usize, copy: usize) -> Copies
+// Refuses a copy of the version word that stands for another version than the side fixes.
+fn check_copy(m: &[u8], v: usize, copy: usize) -> Result<(), Refusal>
     requires { (7 ≤ v) × ((v ≤ last_version) × ((copy < 2) × (length m.now ≡ side v * side v))) }
     ensures { VersionCopy v m.now copy result }
 {
     match version_found(m, v, copy) {
-        Found::NoWord => Copies::Agreeing,
-        Found::Word(x) => {
-            if wide(x) == v {
-                Copies::Agreeing
-            } else {
-                Copies::Other
-            }
-        }
+        Some(x) if x as usize != v => Err(Refusal::OtherVersion),
+        _ => Ok(()),
     }
 }
 
-// Whether either copy of the version word, drawn from version 7 on, stands for another version.
-fn check_versions(m: &[u8], v: usize) -> Copies
+// The same of both copies of the version word, drawn from version 7 on.
+fn check_versions(m: &[u8], v: usize) -> Result<(), Refusal>
     requires { (1 ≤ v) × ((v ≤ last_version) × (length m.now ≡ side v * side v)) }
     ensures { VersionsRead v m.now result }
 {
     if v < 7 {
-        return Copies::Agreeing;
+        return Ok(());
     }
-    let Copies::Agreeing = check_copy(m, v, 0) else {
-        return Copies::Other;
-    };
-    let Copies::Agreeing = check_copy(m, v, 1) else {
-        return Copies::Other;
-    };
-    Copies::Agreeing
+    check_copy(m, v, 0)?;
+    check_copy(m, v, 1)
 }
 
 // A level and a mask.
@@ -162,15 +154,8 @@ pub struct Meta {
     pub mask: usize,
 }
 
-// What the format copies stand for, or the number of the refusal.
-#[derive(Clone, Copy)]
-pub enum Format {
-    Word(Meta),
-    NoWord(u8),
-}
-
 // What a copy of the format word stands for.
-fn format_found(m: &[u8], v: usize, copy: usize) -> Found
+fn format_found(m: &[u8], v: usize, copy: usize) -> Option<u32>
     requires { (1 ≤ v) × ((v ≤ last_version) × ((copy < 2) × (length m.now ≡ side v * side v))) }
     ensures { FormatFound (copied m.now (format_places v copy)) (readable m.now (format_places v copy)) result }
 {
@@ -189,41 +174,27 @@ fn meta_of(bits: u32) -> Meta
     }
 }
 
-// The level and the mask that the format copies stand for; 10 where neither stands, 11 where they stand for different words.
-fn find_format(m: &[u8], v: usize) -> Format
+// The level and the mask that the format copies stand for; or neither stands for anything, or they stand for different words.
+fn find_format(m: &[u8], v: usize) -> Result<Meta, Refusal>
     requires { (1 ≤ v) × ((v ≤ last_version) × (length m.now ≡ side v * side v)) }
     ensures { FormatsRead v m.now result }
 {
+    let first = format_found(m, v, 0);
     let second = format_found(m, v, 1);
-    match format_found(m, v, 0) {
-        Found::NoWord => match second {
-            Found::NoWord => Format::NoWord(10),
-            Found::Word(y) => Format::Word(meta_of(y)),
+    match (first, second) {
+        (None, None) => Err(Refusal::NoFormat),
+        (Some(x), None) => Ok(meta_of(x)),
+        (None, Some(y)) => Ok(meta_of(y)),
+        (Some(x), Some(y)) => if x == y {
+            Ok(meta_of(x))
+        } else {
+            Err(Refusal::TwoFormats)
         },
-        Found::Word(x) => match second {
-            Found::NoWord => Format::Word(meta_of(x)),
-            Found::Word(y) => {
-                if x == y {
-                    Format::Word(meta_of(x))
-                } else {
-                    Format::NoWord(11)
-                }
-            }
-        },
-    }
-}
-
-// The number of a format's refusal.
-fn format_no(f: Format) -> u8
-    ensures { result ≡ format_number f }
-{
-    match f {
-        Format::Word(_) => 0,
-        Format::NoWord(k) => k,
     }
 }
 
 // The codewords of a matrix and their flags, block after block.
+#[tactic(auto, using(crate::proofs::Data::rooms))]
 fn collect(m: &[u8], v: usize, level: usize, mask: usize, blocks: &mut [u8], lost: &mut [u8])
     requires lawful { Lawful v level × (mask < 8) }
     requires m_len { (length m.now ≡ side v * side v) × AtMost 2 m.now }
@@ -248,22 +219,21 @@ fn mend_in(
     blocks: &mut [u8],
     lost: &mut [u8],
     data: &mut [u8],
-) -> Mended
+) -> Result<Counts, Refusal>
     requires lawful { Lawful v level × (mask < 8) }
     requires m_len { (length m.now ≡ side v * side v) × (AtMost 2 m.now × (length «data».old ≡ data_count v level)) }
     requires blocks_len { (length blocks.old ≡ total v) × (length lost.old ≡ total v) }
     ensures { DataMended v level (received v mask m.now) «data».new result }
 {
     collect(m, v, level, mask, blocks, lost);
-    let Mended::Within(sums) = mend_blocks(blocks, lost, v, level) else {
-        return Mended::Beyond;
-    };
+    let sums = mend_blocks(blocks, lost, v, level)?;
     blocks::take_data(blocks, v, level, data);
-    Mended::Within(sums)
+    Ok(sums)
 }
 
 // The same, with room of its own.
-fn mend(m: &[u8], v: usize, level: usize, mask: usize, data: &mut [u8]) -> Mended
+#[tactic(auto, using(crate::proofs::Data::rooms))]
+fn mend(m: &[u8], v: usize, level: usize, mask: usize, data: &mut [u8]) -> Result<Counts, Refusal>
     requires lawful { Lawful v level × (mask < 8) }
     requires m_len { (length m.now ≡ side v * side v) × (AtMost 2 m.now × (length «data».old ≡ data_count v level)) }
     ensures { DataMended v level (received v mask m.now) «data».new result }
@@ -286,12 +256,6 @@ pub struct Reading {
     pub unreadable: usize,
 }
 
-#[derive(Clone, Copy)]
-pub enum Answered {
-    Read(Reading),
-    Refused(u8),
-}
-
 // The last two steps, once the level and the mask are known: the blocks, and the stream of their data codewords, which are put into `held`.
 fn finish(
     m: &[u8],
@@ -301,20 +265,15 @@ fn finish(
     held: &mut [u8],
     payload: &mut [u8],
     list: &mut [u16],
-) -> Answered
+) -> Result<Reading, Refusal>
     requires lawful { Lawful v level × (mask < 8) }
     requires m_len { (length m.now ≡ side v * side v) × (AtMost 2 m.now × (length held.old ≡ data_count v level)) }
     requires most_payload_in_bounds { (most_payload ≤ length payload.old) × (most_list ≤ length list.old) }
     ensures { Finished v level mask m.now payload.old list.old result payload.new list.new }
 {
-    let Mended::Within(sums) = mend(m, v, level, mask, held) else {
-        return Answered::Refused(12);
-    };
-    let p = parse::parse(held, v, payload, list);
-    let Parsing::Whole(sizes) = p else {
-        return Answered::Refused(parse::parsing_no(p));
-    };
-    Answered::Read(Reading {
+    let sums = mend(m, v, level, mask, held)?;
+    let sizes = parse::parse(held, v, payload, list)?;
+    Ok(Reading {
         version: v,
         level,
         mask,
@@ -326,30 +285,17 @@ fn finish(
 }
 
 // The answer that a matrix gets; its payload and its segments at the fronts of the buffers. A refusal leaves both as they were.
-pub fn read(m: &[u8], payload: &mut [u8], list: &mut [u16]) -> Answered
+#[tactic(auto, using(crate::proofs::Data::rooms))]
+pub fn read(m: &[u8], payload: &mut [u8], list: &mut [u16]) -> Result<Reading, Refusal>
     ensures { Answers m.now payload.old list.old result payload.new list.new }
 {
-    if payload.len() < MOST_PAYLOAD {
-        return Answered::Refused(16);
+    if payload.len() < MOST_PAYLOAD || list.len() < MOST_LIST {
+        return Err(Refusal::SmallBuffer);
     }
-    if list.len() < MOST_LIST {
-        return Answered::Refused(16);
-    }
-    let Fixed::Version(v) = check_side(m) else {
-        return Answered::Refused(7);
-    };
-    let Checked::Fine = check_modules(m) else {
-        return Answered::Refused(8);
-    };
-    let Copies::Agreeing = check_versions(m, v) else {
-        return Answered::Refused(9);
-    };
-    let f = find_format(m, v);
-    let Format::Word(meta) = f else {
-        return Answered::Refused(format_no(f));
-    };
-    let level = meta.level;
-    let mask = meta.mask;
+    let v = check_side(m)?;
+    check_modules(m)?;
+    check_versions(m, v)?;
+    let Meta { level, mask } = find_format(m, v)?;
     let d = tables::data(v, level);
     let mut held = [0u8; MOST_DATA];
     finish(m, v, level, mask, &mut held[..d], payload, list)

@@ -20,3 +20,9 @@ FormatFound copy readable None = (bits : ℕ) → FormatNear copy readable bits 
 abbrev pub VersionFound : (copy readable : ℕ) → Option ℕ → Type 0
 VersionFound copy readable (Some v) = VersionNear copy readable v
 VersionFound copy readable None = (v : ℕ) → VersionNear copy readable v → ⊥
+
+-- the same of the words of some numbers, from `first` to before `end`: `IsWord x` tells the word of x, which has k bits
+abbrev pub FoundAmong : (IsWord : ℕ → ℕ → Type 0) (k copy readable first end : ℕ) → Option ℕ → Type 0
+FoundAmong IsWord k copy readable first end (Some x) = (first ≤ x) × (x < end) × (word : ℕ) × IsWord x word × Near k copy readable word
+FoundAmong IsWord k copy readable first end None =
+    (x : ℕ) → first ≤ x → x < end → (word : ℕ) × IsWord x word × (Near k copy readable word → ⊥)

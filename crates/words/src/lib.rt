@@ -1,10 +1,10 @@
 // The format word and the version word, and which one a copy stands for where some of its bits are wrong or unreadable.
 #![tactic(auto)]
 
-ghost use Rattle.std.specs.Prelude.{◌≡◌, ◌+◌, ◌*◌, ◌<◌, ◌≤◌, ◌^◌, count_ones, Decides};
+ghost use Rattle.std.specs.Prelude.{◌≡◌, ◌+◌, ◌*◌, ◌<◌, ◌≤◌, ◌^◌, ℕ, count_ones, Decides};
 ghost use Rattle.std.specs.Int.Bits.{bit_and, bit_xor};
 ghost use Rattle.words.specs.Words.{reduced, format_bits, format_word, version_word, level_of, mask_of, Near};
-ghost use Rattle.words.specs.Found.{FormatFound, VersionFound};
+ghost use Rattle.words.specs.Found.{FormatFound, VersionFound, FoundAmong};
 
 // Words that are made alike: the data bits, and behind them as check bits their remainder by a generator.
 #[derive(Clone, Copy)]
@@ -126,12 +126,34 @@ fn stands_for(copy: u32, readable: u32, bits: u32, word: u32) -> bool
     2 * apart(copy, word, readable) + (bits - readable.count_ones()) <= BOUND
 }
 
+// The first of some numbers whose word a copy stands for; the words have so many bits, and the bits of the copy that could be read are those set in `readable`.
+fn find<F: Fn(u32) -> u32>(
+    copy: u32,
+    readable: u32,
+    bits: u32,
+    first: u32,
+    end: u32,
+    word: F,
+) -> Option<u32>
+    requires few { (bits ≤ 18) × (readable < 2 ^ bits) }
+    requires callable { (x : ℕ) → first ≤ x → x < end → F.pre word x }
+    ensures { FoundAmong (F.post word) bits copy readable first end result }
+{
+    // This loop is vectorised, as `find` over the range is not.
+    for x in first..end {
+        if stands_for(copy, readable, bits, word(x)) {
+            return Some(x);
+        }
+    }
+    None
+}
+
 // The bits of the one format word that a copy stands for; the bits of the copy that could be read are those set in `readable`.
 pub fn find_format(copy: u32, readable: u32) -> Option<u32>
     requires { readable < 2 ^ 15 }
     ensures { FormatFound copy readable result }
 {
-    (0..FORMATS).find(|bits| stands_for(copy, readable, FORMAT_BITS, format_word(*bits)))
+    find(copy, readable, FORMAT_BITS, 0, FORMATS, format_word)
 }
 
 // The version of the one version word that a copy stands for.
@@ -139,10 +161,12 @@ pub fn find_version(copy: u32, readable: u32) -> Option<u32>
     requires { readable < 2 ^ 18 }
     ensures { VersionFound copy readable result }
 {
-    (FIRST_CODED..LAST_CODED + 1).find(|v| stands_for(
+    find(
         copy,
         readable,
         VERSION_BITS,
-        version_word(*v),
-    ))
+        FIRST_CODED,
+        LAST_CODED + 1,
+        version_word,
+    )
 }

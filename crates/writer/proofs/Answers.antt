@@ -12,10 +12,11 @@ use Rattle.basics.specs.Lists.{AtMost}
 use Rattle.tables.specs.Tables.{side, Lawful}
 use Rattle.stream.specs.Stream.{LawfulMessage, lawful_list, counts, lawful_characters}
 use Rattle.modules.proofs.Geometry.{symbol_length}
-use Rattle.writer.specs.declared.Checked.{Checked}
-use Rattle.writer.specs.declared.Drawing.TheVariants as answers
+use Rattle.std.specs.Prelude.{Ok, Err}
+use Rattle.writer.specs.declared.Refusal.{Refusal}
+use Rattle.writer.specs.declared.Refusal.TheVariants as kinds
 use Rattle.writer.specs.Writer.{Request, Refused, in_range, unless, taken, refusal, chosen, codewords, draw_at, draw}
-use Rattle.writer.specs.Answer.{Checks, DrawsAt, Writes}
+use Rattle.writer.specs.Answer.{refusal_number, Checks, DrawsAt, Writes}
 use Rattle.writer.proofs.Fit.{fit_rule}
 use Rattle.writer.proofs.Drawn.{sound, taken_lawful}
 
@@ -28,6 +29,15 @@ module _ (r : Request) (out : ℕ) where
   pub draw_accepted : refusal r out ≡ 0 → draw r out ≡ draw_at (taken r.level r.version r.list) r
   unfolding draw
   draw_accepted e = rw e
+
+-- no refusal has the number 0
+refusal_some : (e : Refusal) → refusal_number e ≡ 0 → ⊥
+refusal_some kinds.BadNumber h = omega arith
+refusal_some kinds.BadList h = omega arith
+refusal_some kinds.BadCounts h = omega arith
+refusal_some kinds.BadCharacter h = omega arith
+refusal_some kinds.NoFit h = omega arith
+refusal_some kinds.ShortOutput h = omega arith
 
 -- a check that was passed
 unless_passed : (b : Bool) (n k : ℕ) → 0 < n → unless b n k ≡ 0 → (b ≡ true) × (k ≡ 0)
@@ -65,20 +75,24 @@ accepted_mask r out e =
     let h : 8 < r.mask → ⊥ = λ l. (sound r out e).numbers (inr (inr l)) in
     omega arith
 
--- with no refusal the version is the one taken
-pub version_beside_lem : (r : Request) (out : ℕ) (c : Checked) → Checks r out c → refusal r out ≡ 0 → c.version ≡ taken r.level r.version r.list
-version_beside_lem r out c h e = rw e at h.version
+-- the answer of the checks: a refusal, by its number, or the version taken
+pub checks_refused : (r : Request) (out : ℕ) (e : Refusal) → refusal_number e ≡ refusal r out → Checks r out (Err e)
+checks_refused r out e h = record { refused = h; version = tt }
+
+pub checks_passed : (r : Request) (out v : ℕ) → refusal r out ≡ 0 → v ≡ taken r.level r.version r.list → Checks r out (Ok v)
+checks_passed r out v z e = record { refused = tt; version = (z, e) }
 
 -- a refusal leaves the output
-pub writes_refusal : (r : Request) (out : List ℕ) (n : ℕ) → n ≡ refusal r (length out) → n ≢ 0 → Writes r out (answers.Refused n) out
-writes_refusal r out n e z =
-    let d = draw_refused r (length out) n e z in
+pub writes_refusal : (r : Request) (out : List ℕ) (e : Refusal) → refusal_number e ≡ refusal r (length out) → Writes r out (Err e) out
+writes_refusal r out e h =
+    let some : refusal_number e ≢ 0 = λ z. refusal_some e z in
+    let d = draw_refused r (length out) (refusal_number e) h some in
     record { given = rw d; output = rw d }
 
 -- a drawing stands in front of what was past it
 pub writes_drawing : (r : Request) (out : List ℕ) (v drawn s : ℕ) (after : List ℕ) → refusal r (length out) ≡ 0
     → v ≡ taken r.level r.version r.list → DrawsAt v r.level r.mask (codewords v r) out drawn after → s ≡ side v
-    → Writes r out (answers.Drawn (record { version = v; mask = drawn; side = s })) after
+    → Writes r out (Ok (record { version = v; mask = drawn; side = s })) after
 unfolding draw_at
 writes_drawing r out v drawn s after z e a f =
     let d = draw_accepted r (length out) z in

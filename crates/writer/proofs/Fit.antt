@@ -1,5 +1,5 @@
 -- The version that is taken: the named one where it fits, with version 0 the smallest that fits, and 0 where there is none.
-use mathlib.Core.Path.{◌≡◌, refl, sym, ◌∙◌}
+use mathlib.Core.Path.{◌≡◌, refl, sym, ap, ◌∙◌}
 use mathlib.Core.Bool.{Bool, true, false, cond, true≢false}
 use mathlib.Core.Logic.{◌≢◌, by_cases}
 use mathlib.Core.List.{List, ◌∷◌}
@@ -13,6 +13,9 @@ use Rattle.stream.specs.Stream.{fits}
 use Rattle.stream.proofs.Fitting.{above_last}
 use Rattle.writer.specs.Writer.{taken, front_or0}
 use Rattle.writer.specs.Promise.{FitRule, FitRules}
+use Rattle.writer.specs.Answer.{nonzero}
+use Rattle.std.specs.Prelude.{None, Some, is_some, unwrap_or}
+use Rattle.std.specs.Bool.{then_some}
 
 -- the first of a, .., a + n - 1 that passes a test
 module _ (test : ℕ → Bool) where
@@ -87,6 +90,32 @@ fit_least level list =
 
 pub taken_none : (level : ℕ) (list : List ℕ) → ((k : ℕ) → 1 ≤ k → k ≤ last_version → fits k level list ≡ false) → taken level 0 list ≡ 0
 taken_none level list none = (fit_least level list).none.1 (λ v l m n. none v l m)
+
+-- the first version that fits, and none
+pub taken_found : (level v : ℕ) (list : List ℕ) → 1 ≤ v → v ≤ last_version → fits v level list ≡ true
+    → ((k : ℕ) → 1 ≤ k → k < v → fits k level list ≡ false) → Some v ≡ nonzero (taken level 0 list)
+taken_found level zero list l m t before = absurd (omega arith)
+taken_found level (suc n) list l m t before = rw (taken_first level (suc n) list l m t before)
+
+pub taken_nowhere : (level : ℕ) (list : List ℕ) → ((k : ℕ) → 1 ≤ k → k ≤ last_version → fits k level list ≡ false)
+    → None ≡ nonzero (taken level 0 list)
+taken_nowhere level list none = rw (taken_none level list none)
+
+-- what is taken, where a version is and where none is
+pub some_taken : (t v : ℕ) → Some v ≡ nonzero t → (v ≡ t) × (1 ≤ t)
+some_taken zero v e = absurd (let z : true ≡ false = ap is_some e in true≢false z)
+some_taken (suc n) v e = (ap (λ r. unwrap_or r 0) e, omega arith)
+
+pub none_taken : (t : ℕ) → None ≡ nonzero t → t ≡ 0
+none_taken zero e = refl
+none_taken (suc n) e = absurd (let z : false ≡ true = ap is_some e in true≢false (sym z))
+
+-- the named version, where it fits
+pub taken_where : (level version : ℕ) (list : List ℕ) (b : Bool) → version ≢ 0 → fits version level list ≡ b
+    → then_some b version ≡ nonzero (taken level version list)
+taken_where level zero list b z t = absurd (z refl)
+taken_where level (suc n) list true z t = rw (taken_named level (suc n) list z t)
+taken_where level (suc n) list false z t = rw (taken_refused level (suc n) list z t)
 
 fit_named : (level version : ℕ) (list : List ℕ) → version ≢ 0 → FitRule level version list
 fit_named level version list z = by_test (fits version level list) refl

@@ -1,24 +1,33 @@
 -- What the steps of `write` say.
-use Rattle.std.specs.Prelude.{◌≡◌, cond, List, ◌++◌, map, ℕ, zero, suc, ◌*◌, ◌≤◌, eqb, length, drop}
+use Rattle.std.specs.Prelude.{◌≡◌, cond, Option, None, Some, Result, Ok, Err, IfOk, IfErr, List, ◌++◌, map, ℕ, zero, suc, ◌*◌, ◌≤◌, eqb, length, drop}
 use Rattle.basics.specs.Lists.{AtMost, up_to}
 use Rattle.tables.specs.Tables.{side, most_codewords, most_modules}
 use Rattle.modules.specs.Modules.{symbol}
 use Rattle.modules.specs.Kinds.{finished}
 use Rattle.penalty.specs.Penalty.{score, least_place}
-use Rattle.writer.specs.declared.Checked.{Checked}
-use Rattle.writer.specs.declared.Drawing as declared
-use Rattle.writer.specs.declared.Drawing.TheVariants as answers
+use Rattle.writer.specs.declared.Symbol.{Symbol}
+use Rattle.writer.specs.declared.Refusal.{Refusal}
+use Rattle.writer.specs.declared.Refusal.TheVariants as kinds
 use Rattle.writer.specs.Writer.{Request, Drawing, Drawn, Refused, taken, refusal, chosen, draw, output_after}
 
--- the version that goes with a refusal's number: none, or with no refusal the version taken
-abbrev pub version_beside : (refusal taken : ℕ) → ℕ
-version_beside zero taken = taken
-version_beside (suc n) taken = 0
+-- "The writer checks 1 to 6 in order": the number of each
+abbrev pub refusal_number : Refusal → ℕ
+refusal_number kinds.BadNumber = 1
+refusal_number kinds.BadList = 2
+refusal_number kinds.BadCounts = 3
+refusal_number kinds.BadCharacter = 4
+refusal_number kinds.NoFit = 5
+refusal_number kinds.ShortOutput = 6
 
--- the refusal of a request for `out` bytes of output, which "carries its number and zeros", or the version taken
-pub record Checks (r : Request) (out : ℕ) (c : Checked) : Type 0 where
-  pub number : c.refusal ≡ refusal r out
-  pub version : c.version ≡ version_beside (refusal r out) (taken r.level r.version r.list)
+-- a number that is not 0
+abbrev pub nonzero : ℕ → Option ℕ
+nonzero zero = None
+nonzero (suc n) = Some (suc n)
+
+-- the refusal of a request for `out` bytes of output, or the version taken
+pub record Checks (r : Request) (out : ℕ) (c : Result ℕ Refusal) : Type 0 where
+  pub refused : IfErr c (λ e. refusal_number e ≡ refusal r out)
+  pub version : IfOk c (λ v. (refusal r out ≡ 0) × (v ≡ taken r.level r.version r.list))
 
 -- what is laid once for all masks: kinds of modules, of which each mask makes light and dark ones
 pub record Base (v level : ℕ) (base : List ℕ) : Type 0 where
@@ -64,11 +73,13 @@ pub record DrawsAt (v level mask : ℕ) (cs out : List ℕ) (drawn : ℕ) (after
 -- ---- the answer
 
 -- "Its answer: version, mask, side", or the refusal's number
-abbrev pub drawing_given : Drawing → declared.Drawing
-drawing_given (Drawn v mask modules) = answers.Drawn (record { version = v; mask = mask; side = side v })
-drawing_given (Refused n) = answers.Refused n
+abbrev pub Gives : Result Symbol Refusal → Drawing → Type 0
+Gives (Ok s) (Drawn v mask modules) = s ≡ record { version = v; mask = mask; side = side v }
+Gives (Ok s) (Refused n) = ⊥
+Gives (Err e) (Drawn v mask modules) = ⊥
+Gives (Err e) (Refused n) = refusal_number e ≡ n
 
 -- what `write` answers and what the output then holds, refused or not
-pub record Writes (r : Request) (out : List ℕ) (a : declared.Drawing) (after : List ℕ) : Type 0 where
-  pub given : a ≡ drawing_given (draw r (length out))
+pub record Writes (r : Request) (out : List ℕ) (a : Result Symbol Refusal) (after : List ℕ) : Type 0 where
+  pub given : Gives a (draw r (length out))
   pub output : after ≡ output_after (draw r (length out)) out

@@ -1,12 +1,15 @@
 -- What is promised of a request's answer, beside the contract of `write`: each refusal under its own words and in order,
 -- the version that is taken, the mask that is chosen, the modules that are drawn.
-use Rattle.std.specs.Prelude.{◌≡◌, ◌≢◌, ◌⊎◌, ◌↔◌, true, false, List, ℕ, ◌+◌, ◌*◌, ◌%◌, ◌≤◌, ◌<◌, length, get_or, take}
+use Rattle.std.specs.Prelude.{Result, ◌≡◌, ◌≢◌, ◌⊎◌, ◌↔◌, true, false, List, ℕ, ◌+◌, ◌*◌, ◌%◌, ◌≤◌, ◌<◌, length, get_or, take}
 use Rattle.basics.specs.Lists.{AtMost}
 use Rattle.tables.specs.Tables.{side, last_version, Lawful}
 use Rattle.stream.specs.Stream.{known, in_mode, counts, fits}
 use Rattle.modules.specs.Modules.{symbol}
 use Rattle.penalty.specs.Penalty.{score}
+use Rattle.writer.specs.declared.Symbol.{Symbol}
+use Rattle.writer.specs.declared.Refusal.{Refusal}
 use Rattle.writer.specs.Writer.{Request, Drawn, draw, refusal, taken, codewords}
+use Rattle.writer.specs.Answer.{Writes}
 
 -- ---- the refusals
 
@@ -83,3 +86,10 @@ DrawnRules = (r : Request) (out v mask : ℕ) (modules : List ℕ) → draw r ou
 abbrev pub DrawnModules : Type 0
 DrawnModules = (r : Request) (out v mask : ℕ) (modules : List ℕ) → draw r out ≡ Drawn v mask modules
     → (length modules ≡ side v * side v) × AtMost 1 modules
+
+-- ---- one answer
+
+-- no two different answers, nor two outputs, satisfy the promise of `write`
+abbrev pub WritesOnly : Type 0
+WritesOnly = (r : Request) (out : List ℕ) (a a₁ : Result Symbol Refusal) (after after₁ : List ℕ)
+    → Writes r out a after → Writes r out a₁ after₁ → (a ≡ a₁) × (after ≡ after₁)

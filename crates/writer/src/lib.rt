@@ -1,4 +1,4 @@
-// The writer: the symbol that a request gets, or the number of its refusal.
+// The writer: the symbol that a request gets, or its refusal.
 #![tactic(auto)]
 
 ghost use Rattle.std.specs.Prelude.{◌≡◌, ◌+◌, ◌*◌, ◌<◌, ◌≤◌, length};
@@ -8,60 +8,70 @@ ghost use Rattle.blocks.specs.Blocks.{sent};
 ghost use Rattle.modules.specs.Kinds.{laid, finished};
 ghost use Rattle.penalty.specs.Penalty.{score};
 ghost use Rattle.writer.specs.Writer.{request, in_range, taken};
-ghost use Rattle.writer.specs.Answer.{Checks, Base, Beyond, least_mask, mask_drawn, LayingBuffers, Finishes, DrawingBuffers, DrawsAt, Writes};
+ghost use Rattle.writer.specs.Answer.{refusal_number, nonzero, Checks, Base, Beyond, least_mask, mask_drawn, LayingBuffers, Finishes, DrawingBuffers, DrawsAt, Writes};
 
 use tables::{LAST_VERSION, MOST_CODEWORDS, MOST_MODULES};
 
-// The smallest version that fits, or 0.
-fn smallest(level: usize, list: &[u16]) -> usize
-    requires { level ≤ 3 }
-    ensures { result ≡ taken level 0 list.now }
-{
-    let mut v: usize = 1;
-    while v <= LAST_VERSION {
-        if stream::fits(v, level, list) {
-            return v;
-        }
-        v += 1;
-    }
-    0
+// Why a request is refused.
+#[derive(Clone, Copy, Debug, PartialEq, Eq)]
+pub enum Refusal {
+    BadNumber,
+    BadList,
+    BadCounts,
+    BadCharacter,
+    NoFit,
+    ShortOutput,
 }
 
-// The version that is taken, or 0 where none fits.
-fn version_taken(level: usize, version: usize, list: &[u16]) -> usize
+impl Refusal {
+    // Its number, 1 to 6, in the order of the checks.
+    pub fn number(self) -> u8
+        ensures { result ≡ refusal_number self }
+    {
+        match self {
+            Refusal::BadNumber => 1,
+            Refusal::BadList => 2,
+            Refusal::BadCounts => 3,
+            Refusal::BadCharacter => 4,
+            Refusal::NoFit => 5,
+            Refusal::ShortOutput => 6,
+        }
+    }
+}
+
+// The smallest version that fits.
+fn smallest(level: usize, list: &[u16]) -> Option<usize>
+    requires { level ≤ 3 }
+    ensures { result ≡ nonzero (taken level 0 list.now) }
+{
+    for v in 1..=LAST_VERSION {
+        if stream::fits(v, level, list) {
+            return Some(v);
+        }
+    }
+    None
+}
+
+// The version that is taken, where one fits.
+fn version_taken(level: usize, version: usize, list: &[u16]) -> Option<usize>
     requires { (level ≤ 3) × (version ≤ last_version) }
-    ensures { result ≡ taken level version list.now }
+    ensures { result ≡ nonzero (taken level version list.now) }
 {
     if version == 0 {
         return smallest(level, list);
     }
-    if stream::fits(version, level, list) {
-        return version;
-    }
-    0
+    stream::fits(version, level, list).then_some(version)
 }
 
 // Whether the numbers are within the paper's: level to 3, version to 10, mask to 8.
+#[tactic(auto, unfolding(crate::specs::Writer::in_range))]
 fn in_range(level: usize, version: usize, mask: usize) -> bool
     ensures { result ≡ in_range level version mask }
 {
-    if 3 < level {
-        return false;
-    }
-    if LAST_VERSION < version {
-        return false;
-    }
-    mask <= 8
+    level <= 3 && version <= LAST_VERSION && mask <= 8
 }
 
-// The refusal of a request and version 0, or refusal 0 and the version taken.
-#[derive(Drop)]
-struct Checked {
-    refusal: u8,
-    version: usize,
-}
-
-// Checks 1 to 6 in order; the output has `room` bytes.
+// Checks 1 to 6 in order; the output has `room` bytes. Where all pass, the version taken.
 fn check(
     payload: &[u8],
     list: &[u16],
@@ -69,51 +79,29 @@ fn check(
     version: usize,
     mask: usize,
     room: usize,
-) -> Checked
+) -> Result<usize, Refusal>
     ensures { Checks (request payload.now list.now level version mask) room result }
 {
     if !in_range(level, version, mask) {
-        return Checked {
-            refusal: 1,
-            version: 0,
-        };
+        return Err(Refusal::BadNumber);
     }
     if !stream::lawful_list(list) {
-        return Checked {
-            refusal: 2,
-            version: 0,
-        };
+        return Err(Refusal::BadList);
     }
     if !stream::counts_match(list, payload.len()) {
-        return Checked {
-            refusal: 3,
-            version: 0,
-        };
+        return Err(Refusal::BadCounts);
     }
     if !stream::lawful_characters(list, payload) {
-        return Checked {
-            refusal: 4,
-            version: 0,
-        };
+        return Err(Refusal::BadCharacter);
     }
-    let v = version_taken(level, version, list);
-    if v == 0 {
-        return Checked {
-            refusal: 5,
-            version: 0,
-        };
-    }
+    let Some(v) = version_taken(level, version, list) else {
+        return Err(Refusal::NoFit);
+    };
     let s = tables::side(v);
     if room < s * s {
-        return Checked {
-            refusal: 6,
-            version: 0,
-        };
+        return Err(Refusal::ShortOutput);
     }
-    Checked {
-        refusal: 0,
-        version: v,
-    }
+    Ok(v)
 }
 
 // The codewords of a message as they are sent; `held` is for its data codewords and their checks on the way.
@@ -152,14 +140,12 @@ fn least_mask(base: &[u8], v: usize, level: usize, out: &mut [u8]) -> usize
 {
     let mut least = score_under(base, v, level, 0, out);
     let mut place: usize = 0;
-    let mut k: usize = 1;
-    while k < 8 {
+    for k in 1..8 {
         let x = score_under(base, v, level, k, out);
         if x < least {
             least = x;
             place = k;
         }
-        k += 1;
     }
     place
 }
@@ -232,13 +218,6 @@ pub struct Symbol {
     pub side: u32,
 }
 
-// What a request gets: a symbol, or the number of its refusal.
-#[derive(Clone, Copy)]
-pub enum Drawing {
-    Drawn(Symbol),
-    Refused(u8),
-}
-
 // Draws the symbol of a request into the first s·s bytes of `out`, or refuses and leaves `out` as it was.
 pub fn write(
     payload: &[u8],
@@ -247,22 +226,17 @@ pub fn write(
     version: usize,
     mask: usize,
     out: &mut [u8],
-) -> Drawing
+) -> Result<Symbol, Refusal>
     ensures { Writes (request payload.now list.now level version mask) out.old result out.new }
 {
-    let checked = check(payload, list, level, version, mask, out.len());
-    let refusal = checked.refusal;
-    let v = checked.version;
-    if refusal != 0 {
-        return Drawing::Refused(refusal);
-    }
+    let v = check(payload, list, level, version, mask, out.len())?;
     let mut held = [0u8; MOST_CODEWORDS];
     let mut words = [0u8; MOST_CODEWORDS];
     let mut base = [0u8; MOST_MODULES];
     let drawn = draw_at(
         payload, list, v, level, mask, &mut held, &mut words, &mut base, out,
     );
-    Drawing::Drawn(Symbol {
+    Ok(Symbol {
         version: v as u32,
         mask: drawn as u32,
         side: tables::side(v) as u32,

@@ -2,7 +2,7 @@
 use mathlib.Core.Path.{◌≡◌, sym, ap, ◌∙◌}
 use mathlib.Core.List.{List, ◌++◌}
 use Prim.Native.Nat.{ℕ, ◌+◌, ◌*◌, ◌≤◌, ◌<◌}
-use native.Mathlib.Nat.{le_antisymm, zero-mul}
+use native.Mathlib.Nat.{zero-mul}
 use native.Mathlib.Omega.{arith}
 use lib.ListN.{length, drop}
 use Rattle.basics.specs.Build.{build}
@@ -40,7 +40,7 @@ format_word-requires c = rw c.format_bits.ensures (format_bits_lt c.args.level c
 
 pub loop-i-init : goal.loop-i-init
 unfolding build
-loop-i-init c = (omega arith, rw zero-mul)
+loop-i-init c = rw zero-mul
 
 pub tint_row-requires : goal.tint_row-requires
 tint_row-requires c =
@@ -48,8 +48,8 @@ tint_row-requires c =
     let i = c.loop-i.i in
     let n = c.side-s.result in
     let e =
-    ends _ c.loop-i.i _ (side c.args.v) _ _ _ c.side-s.ensures (omega (arith, c.requires.0.most)) c.loop-i-test.true
-    c.requires.1.1.0 c.requires.1.1.1.1 c.loop-i.invariant.1 in (
+    ends _ c.loop-i.i _ (side c.args.v) _ _ _ c.side-s.ensures (omega (arith, c.requires.0.most)) (omega arith)
+    c.requires.1.1.0 c.requires.1.1.1.1 c.loop-i.invariant in (
       length_part _ _ _ e.in_out ∙ sym (length_part _ _ _ e.in_base),
       (
         rw (length_part base (i * n) n e.in_base) e.small,
@@ -63,14 +63,12 @@ loop-i-preserved c =
     let i = c.loop-i.i in
     let n = c.side-s.result in
     let e =
-    ends _ c.loop-i.i _ (side c.args.v) _ _ _ c.side-s.ensures (omega (arith, c.requires.0.most)) c.loop-i-test.true
-    c.requires.1.1.0 c.requires.1.1.1.1 c.loop-i.invariant.1 in
-    let word = c.format_word.ensures ∙ ap format_word c.format_bits.ensures in (
-      omega arith,
-      row_more _ _ _ _ _ i n c.loop-i.invariant.1 (c.tint_row.ensures ∙ ap (build _) (length_part base (i * n) n e.in_base))
-          (λ j h. row_at c.args.v c.args.level c.args.mask (omega arith) (omega arith) base c.requires.1.1.1.0 n
-          c.side-s.ensures e.small i _ _ j c.loop-i-test.true word c.row_flips.ensures h),
-    )
+    ends _ c.loop-i.i _ (side c.args.v) _ _ _ c.side-s.ensures (omega (arith, c.requires.0.most)) (omega arith)
+    c.requires.1.1.0 c.requires.1.1.1.1 c.loop-i.invariant in
+    let word = c.from-word.ensures ∙ c.format_word.ensures ∙ ap format_word c.format_bits.ensures in
+    row_more _ _ _ _ _ i n c.loop-i.invariant (c.tint_row.ensures ∙ ap (build _) (length_part base (i * n) n e.in_base))
+    (λ j h. row_at c.args.v c.args.level c.args.mask (omega arith) (omega arith) base c.requires.1.1.1.0 n
+    c.side-s.ensures e.small i _ _ j (omega arith) word c.row_flips.ensures h)
 
 pub returns : goal.returns
 returns c =
@@ -79,7 +77,7 @@ returns c =
     let s = side c.args.v in
     let base = c.args.base.now in
     let size : n * n ≡ s * s = ap (λ (n : ℕ). n * n) c.side-s.ensures in
-    let done : l.i ≡ n = le_antisymm l.invariant.0 c.loop-i-test.false in
+    let done : l.i ≡ n = omega arith in
     let whole : l.i * n ≡ s * s = ap (λ (i : ℕ). i * n) done ∙ size in
-    l.invariant.1 ∙ ap (λ (xs : List ℕ). xs ++ drop (l.i * n) c.args.out.now) (finished_build c.args.v c.args.level c.args.mask base (l.i * n) whole)
+    l.invariant ∙ ap (λ (xs : List ℕ). xs ++ drop (l.i * n) c.args.out.now) (finished_build c.args.v c.args.level c.args.mask base (l.i * n) whole)
     ∙ ap (λ (m : ℕ). finished c.args.v c.args.level c.args.mask base ++ drop m c.args.out.now) whole

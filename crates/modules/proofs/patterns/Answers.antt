@@ -4,14 +4,14 @@ use native.Mathlib.Omega.{arith}
 use Rattle.modules.proofs.Drawn.{below_made, from_made, below_drawn, from_drawn}
 use Rattle.modules.proofs.patterns.Goals as goal
 
-pub returns-then-v-lt-FIRST_WITH_WORD : goal.returns-then-v-lt-FIRST_WITH_WORD
-returns-then-v-lt-FIRST_WITH_WORD c =
-    below_made _ _ _ _ _ _ c.requires.1.1 c.clear.ensures c.side.ensures c.finders.ensures c.frame.ensures
+pub returns-else-v-ge-FIRST_WITH_WORD : goal.returns-else-v-ge-FIRST_WITH_WORD
+returns-else-v-ge-FIRST_WITH_WORD c =
+    below_made _ _ _ _ _ _ c.requires.1.1 (c.fill.ensures.after (λ y e. e)) c.side.ensures c.finders.ensures c.frame.ensures
     ∙ below_drawn c.args.v (omega arith) (omega arith)
 
-pub returns : goal.returns
-returns c =
+pub returns-then-v-ge-FIRST_WITH_WORD : goal.returns-then-v-ge-FIRST_WITH_WORD
+returns-then-v-ge-FIRST_WITH_WORD c =
     from_made _ _ _ _
-    (below_made _ _ _ _ _ _ c.requires.1.1 c.clear.ensures c.side.ensures c.finders.ensures c.frame.ensures)
-    c.version_word.ensures c.versions.ensures
+    (below_made _ _ _ _ _ _ c.requires.1.1 (c.fill.ensures.after (λ y e. e)) c.side.ensures c.finders.ensures c.frame.ensures)
+    (c.from.ensures ∙ c.version_word.ensures) c.versions.ensures
     ∙ from_drawn c.args.v (omega arith) c.requires.1.0

@@ -27,5 +27,5 @@ tested = tt
 pub returns : goal.returns
 unfolding rows
 returns c = let a = c.args in
-    ap (λ (x : ℕ). x * sixths) c.wide.ensures
+    ap (λ (x : ℕ). x * sixths) c.from.ensures
     ∙ eqb→eq _ _ (grid 8 60 (λ m i. eqb (get_or (get_or rows m []) (i % 12) 0 * sixths) (row_flips m i)) tested a.mask a.i (omega arith) (omega arith))

@@ -1,10 +1,8 @@
 -- `reader::mend_blocks` meets its contract: `Mending` says what the loop has done, and a turn is one law.
-use Rattle.std.proofs.Common.{◌≡◌, List, ℕ, ◌+◌, ◌-◌, ◌≤◌, ◌<◌, length, take, drop, refl, sym, subst, subst₂, inl, inr, ◌∙◌, arith}
+use Rattle.std.proofs.Common.{◌≡◌, List, ℕ, ◌+◌, ◌≤◌, ◌<◌, length, refl, sym, subst, subst₂, ◌∙◌, arith}
 use Rattle.basics.proofs.Parts.{length_part}
 use Rattle.tables.specs.Tables.{Lawful, total, room, block_count, check_count, block_length}
 use Rattle.tables.proofs.Rules.{room_most, checks_most, block_length_most, total_most}
-use Rattle.corrector.specs.declared.Correction.{Correction}
-use Rattle.corrector.specs.Correct.{Corrected}
 use Rattle.blocks.proofs.Dealing.{offset_end}
 use Rattle.reader.proofs.Mending.{Mending, mending_none, mending_all, Turn, turn_stood, turn_sums, turn_none}
 use Rattle.reader.proofs.mend_blocks.Goals as goal
@@ -29,8 +27,8 @@ module _ (v level count n bound : ℕ) (w_0 f w : List ℕ) (a b t e long : ℕ)
     in_flags = omega (arith, ends, asked.1.1)
 
     -- .. and once the block is corrected
-    abbrev turn : (ys : List ℕ) (verdict : Correction) → Corrected n bound (take (a + long - a) (drop a w)) (take (a + long - a) (drop a f)) ys verdict → Turn
-    turn ys verdict given =
+    abbrev turn : (ys : List ℕ) → Turn
+    turn ys =
         record {
           v = v;
           level = level;
@@ -45,7 +43,6 @@ module _ (v level count n bound : ℕ) (w_0 f w : List ℕ) (a b t e long : ℕ)
           n = n;
           bound = bound;
           long = long;
-          verdict = verdict;
           lawful = asked.0;
           mending = inv.0;
           is_block = here;
@@ -53,7 +50,6 @@ module _ (v level count n bound : ℕ) (w_0 f w : List ℕ) (a b t e long : ℕ)
           checks_are = inv.2;
           bound_is = inv.3;
           long_is = long_is;
-          given = given;
         }
 
 -- ---- the goals
@@ -68,41 +64,44 @@ overflow_add-e c =
     omega (arith, h, total_most _ c.requires.0.least c.requires.0.most)
 
 pub slice_bounds-correct-end : goal.slice_bounds-correct-end
-slice_bounds-correct-end c = in_words _ _ _ _ _ _ _ _ _ _ _ _ _ c.requires c.loop-b.invariant c.loop-b-test.true c.block_length.ensures
+slice_bounds-correct-end c =
+    in_words _ _ _ _ _ _ _ _ _ _ _ _ _ c.requires c.loop-b.invariant c.loop-b-test.true c.block_length.ensures
 
 pub slice_bounds-correct-end-in-loop-b : goal.slice_bounds-correct-end-in-loop-b
-slice_bounds-correct-end-in-loop-b c = in_flags _ _ _ _ _ _ _ _ _ _ _ _ _ c.requires c.loop-b.invariant c.loop-b-test.true c.block_length.ensures
+slice_bounds-correct-end-in-loop-b c =
+    in_flags _ _ _ _ _ _ _ _ _ _ _ _ _ c.requires c.loop-b.invariant c.loop-b-test.true c.block_length.ensures
 
-pub correct-verdict-requires : goal.correct-verdict-requires
-correct-verdict-requires c =
-    let i = c.loop-b.invariant in
+pub correct-requires : goal.correct-requires
+correct-requires c =
     let w = in_words _ _ _ _ _ _ _ _ _ _ _ _ _ c.requires c.loop-b.invariant c.loop-b-test.true c.block_length.ensures in
     let f = in_flags _ _ _ _ _ _ _ _ _ _ _ _ _ c.requires c.loop-b.invariant c.loop-b-test.true c.block_length.ensures in (
       length_part _ _ _ f ∙ sym (length_part _ _ _ w),
       rw (length_part _ _ _ w) (omega (arith, c.block_length.ensures, block_length_most _ _ c.loop-b.b c.requires.0)),
-      subst (λ (x : ℕ). x ≤ 30) (sym i.2) (checks_most _ _ c.requires.0),
-      subst₂ (λ (x y : ℕ). x ≤ y) (sym i.3) (sym i.2) (room_most _ _),
+      subst (λ (x : ℕ). x ≤ 30) (sym c.loop-b.invariant.2) (checks_most _ _ c.requires.0),
+      subst₂ (λ (x y : ℕ). x ≤ y) (sym c.loop-b.invariant.3) (sym c.loop-b.invariant.2) (room_most _ _),
     )
 
 pub returns-in_default : goal.returns-in_default
 returns-in_default c =
-    let k = turn _ _ _ _ _ _ _ _ _ _ _ _ _ c.requires c.loop-b.invariant c.loop-b-test.true c.block_length.ensures _ _ c.correct-verdict.ensures in
-    inl (refl, (k.b, k.is_block, turn_none k c.in_default.is))
+    let k = turn _ _ _ _ _ _ _ _ _ _ _ _ _ c.requires c.loop-b.invariant c.loop-b-test.true c.block_length.ensures c.correct.new.word in
+    (refl, (k.b, k.is_block, turn_none k c.in_default.ensures.1))
 
 pub overflow_add-differing : goal.overflow_add-differing
 overflow_add-differing c =
-    let s = turn_sums (turn _ _ _ _ _ _ _ _ _ _ _ _ _ c.requires c.loop-b.invariant c.loop-b-test.true c.block_length.ensures _ _ c.correct-verdict.ensures) _ c.in-Stood.is in
+    let k = turn _ _ _ _ _ _ _ _ _ _ _ _ _ c.requires c.loop-b.invariant c.loop-b-test.true c.block_length.ensures c.correct.new.word in
+    let s = turn_sums k _ c.in-Some.ensures in
     omega (arith, s.0, s.1)
 
 pub overflow_add-unreadable : goal.overflow_add-unreadable
 overflow_add-unreadable c =
-    let s = turn_sums (turn _ _ _ _ _ _ _ _ _ _ _ _ _ c.requires c.loop-b.invariant c.loop-b-test.true c.block_length.ensures _ _ c.correct-verdict.ensures) _ c.in-Stood.is in
+    let k = turn _ _ _ _ _ _ _ _ _ _ _ _ _ c.requires c.loop-b.invariant c.loop-b-test.true c.block_length.ensures c.correct.new.word in
+    let s = turn_sums k _ c.in-Some.ensures in
     omega (arith, s.0, s.1)
 
 pub loop-b-preserved : goal.loop-b-preserved
 loop-b-preserved c =
-    let i = c.loop-b.invariant in
-    (turn_stood (turn _ _ _ _ _ _ _ _ _ _ _ _ _ c.requires c.loop-b.invariant c.loop-b-test.true c.block_length.ensures _ _ c.correct-verdict.ensures) _ c.in-Stood.is, i.1, i.2, i.3)
+    let k = turn _ _ _ _ _ _ _ _ _ _ _ _ _ c.requires c.loop-b.invariant c.loop-b-test.true c.block_length.ensures c.correct.new.word in
+    (turn_stood k _ c.in-Some.ensures, c.loop-b.invariant.1, c.loop-b.invariant.2, c.loop-b.invariant.3)
 
 pub returns : goal.returns
-returns c = inr (refl, mending_all _ _ _ _ _ _ _ _ _ c.loop-b.invariant.0 (omega (arith, c.loop-b-test.false, c.loop-b.invariant.1)))
+returns c = mending_all _ _ _ _ _ _ _ _ _ c.loop-b.invariant.0 (omega (arith, c.loop-b-test.false, c.loop-b.invariant.1))

@@ -1,13 +1,14 @@
--- `writer::smallest` meets its contract. The invariant: no version before v fits.
-use mathlib.Core.Path.{sym, ◌∙◌}
-use native.Mathlib.Omega.{arith}
-use Rattle.writer.proofs.Fit.{taken_first, taken_none}
+-- `writer::smallest` meets its contract.
+use Rattle.std.proofs.Common.{sym, ◌∙◌, arith}
+use Rattle.writer.proofs.Fit.{taken_found, taken_nowhere}
 use Rattle.writer.proofs.smallest.Goals as goal
 
 pub returns-then-fits : goal.returns-then-fits
 returns-then-fits c =
-    let l = c.loop-v in
-    sym (taken_first _ l.v _ (omega arith) (omega arith) (sym c.fits.ensures ∙ c.if-fits.true) l.invariant.1.1)
+    taken_found c.args.level c.loop-v.v c.args.list.now (omega arith) (omega arith) (sym c.fits.ensures ∙ c.if-fits.true) c.loop-v.invariant
 
 pub returns : goal.returns
-returns c = sym (taken_none _ _ (λ k h m. c.loop-v.invariant.1.1 k h (omega arith)))
+returns c = taken_nowhere c.args.level c.args.list.now (λ k l m. c.loop-v.invariant k l (omega arith))
+
+pub loop-v-init : goal.loop-v-init
+loop-v-init c = λ k l m. absurd (omega arith)

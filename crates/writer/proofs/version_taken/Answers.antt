@@ -1,10 +1,7 @@
 -- `writer::version_taken` meets its contract.
-use mathlib.Core.Path.{sym, ◌∙◌}
-use Rattle.writer.proofs.Fit.{taken_named, taken_refused}
+use Rattle.std.proofs.Common.{sym, ◌∙◌}
+use Rattle.writer.proofs.Fit.{taken_where}
 use Rattle.writer.proofs.version_taken.Goals as goal
 
-pub returns-then-fits : goal.returns-then-fits
-returns-then-fits c = sym (taken_named _ _ _ c.if-version-eq0.false (sym c.fits.ensures ∙ c.if-fits.true))
-
 pub returns : goal.returns
-returns c = sym (taken_refused _ _ _ c.if-version-eq0.false (sym c.fits.ensures ∙ c.if-fits.false))
+returns c = c.then_some.ensures ∙ taken_where c.args.level c.args.version c.args.list.now c.fits.result c.if-version-eq0.false (sym c.fits.ensures)
