@@ -2,20 +2,17 @@
 --     fill_none, fill_more, fill_all   a buffer of zeros that is filled from the front
 --     build_same                       two lists that are built of equal entries
 --     cut_padded                       a list that is built, cut after the first n entries and filled up with zeros
---     build_called                     an array whose entries a closure made
-use mathlib.Core.Path.{◌≡◌, refl, sym, subst, ap₂, ◌∙◌}
+use mathlib.Core.Path.{◌≡◌, refl, sym, ap₂, ◌∙◌}
 use mathlib.Core.List.{List, [], ◌∷◌, ◌++◌, append-nil}
 use Prim.Native.Nat.{ℕ, zero, suc, ◌+◌, ◌-◌, ◌<◌, ◌≤◌}
-use native.Mathlib.Nat.{add-zero, zero-add, sub-zero}
+use native.Mathlib.Nat.{sub-zero}
 use native.Mathlib.Numerals.{add-one}
 use native.Mathlib.Omega.{arith}
-use lib.ListN.{length, take, drop, set, replicate, length-drop}
-use denote.Param.Members.{Mut, Called}
-use Rattle.std.specs.Array.{IsFromFnResult, IsFromFnResultFrom}
-use lib.Seq.{set_at, append_snoc, take-suc, ext_get_or, length-take-le, get_or-take}
+use lib.ListN.{take, drop, set, replicate, length-drop}
+use lib.Seq.{set_at, append_snoc, ext_get_or, length-take-le, get_or-take}
 use Rattle.std.proofs.lemmas.List.{drop_all}
 use Rattle.basics.specs.Build.{build}
-use Rattle.basics.proofs.Build.{build_all, build_get, build_length}
+use Rattle.basics.proofs.Build.{build_get, build_length}
 use borrow.Rule.Slice.PartMut.{put_mid}
 use Rattle.code.specs.Lanes.{padded}
 
@@ -58,22 +55,3 @@ unfolding padded
 cut_padded f n m all zeros h e z =
     let past : drop (m - n) (drop n (build f m)) ≡ [] = drop_all (m - n) (drop n (build f m)) (simp (length-drop, build_length) (omega arith)) in
     rw (e, z, take_build f n m h, build_length f n, past, append-nil (replicate {A = ℕ} (m - n) 0))
-
--- an array made by calls of a closure that keeps nothing, each of which gives f's entry
-module _ {F : Type 0} (g : Mut F (ℕ × Unit {0}) ℕ) (f : ℕ → ℕ) (at : F)
-    (gives : (k v : ℕ) (next : F) → Called g at (k, tt) v next → (v ≡ f k) × (next ≡ at)) where
-  called_from : (made : List ℕ) (n k : ℕ) → k + n ≡ length made → take k made ≡ build f k → IsFromFnResultFrom g at made k n → take (k + n) made ≡ build f (k + n)
-  unfolding build
-  called_from made zero k l e c = rw add-zero e
-  called_from made (suc n) k l e (next, v, is, call, rest) =
-      let gave = gives k v next call in
-      let step : take (k + 1) made ≡ build f (k + 1) =
-      let here : k < length made = omega arith in
-      rw (add-one, take-suc made k 0, e, is.1 0, gave.0) in
-      let there : k + 1 + n ≡ k + suc n = omega arith in
-      rw (← there) (called_from made n (k + 1) (omega arith) step (subst (λ (f : F). IsFromFnResultFrom g f made (k + 1) n) gave.1 rest))
-
-  pub build_called : (made : List ℕ) (n : ℕ) → IsFromFnResult g at made n → made ≡ build f n
-  unfolding build
-  build_called made n r =
-      build_all f made n r.long (rw zero-add at (called_from made n 0 (rw zero-add (sym r.long)) refl r.each))

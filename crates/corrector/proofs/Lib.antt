@@ -1,3 +1,4 @@
+pub mod Backwards
 pub mod Late
 pub mod Rows
 pub mod Running

@@ -1,7 +1,8 @@
--- `corrector::mended` meets its contract: before the first value nothing has changed.
+-- `corrector::mended` meets its contract.
 use Rattle.std.proofs.Common.{arith, rules}
-use Rattle.corrector.proofs.Mending.{mended_start}
+use Rattle.corrector.proofs.Mending.{mended_step}
 use Rattle.corrector.proofs.mended.Goals as goal
 
-pub loop-done-init : goal.loop-done-init
-loop-done-init c = (omega arith, search rules, mended_start c.args.word.now c.args.at c.args.values c.copied-r.result c.copied-r.ensures)
+pub loop-k-preserved : goal.loop-k-preserved
+loop-k-preserved c = let l = c.loop-k in
+    rw c.from-j.ensures (search rules, mended_step c.args.word.now c.args.at c.args.values l.k l.r (omega (arith, l.invariant.0, c.requires.2 l.k (omega arith))) l.invariant.1)
