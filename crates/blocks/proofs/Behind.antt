@@ -101,10 +101,6 @@ module _ (v level : ℕ) (lawful : Lawful v level) where
     pub front_ends : (b c : ℕ) → c ≡ data_count v level + b * check_count v level → length (front v level codewords b) ≡ c
     front_ends b c e = length_front v level codewords b ∙ rw long (sym e)
 
-    pub length_words : (words words_0 : List ℕ) (b c : ℕ) → words ≡ front v level codewords b ++ drop c words_0 → c ≡ data_count v level + b * check_count v level
-        → c ≤ total v → length words_0 ≡ total v → length words ≡ total v
-    length_words words words_0 b c e h l t = rw (e, length-append, front_ends b c h, length-drop) (omega arith)
-
     -- the data of block b, in a buffer with any front
     pub held_part : (words rest : List ℕ) (k b a n : ℕ) → words ≡ front v level codewords k ++ rest → b < block_count v level → a ≡ block_start v level b → n ≡ block_data v level b
         → take (a + n - a) (drop a words) ≡ take (block_data v level b) (drop (block_start v level b) codewords)
@@ -130,9 +126,3 @@ module _ (v level : ℕ) (lawful : Lawful v level) where
     pub data_first : (words : List ℕ) → words ≡ data_then_checks v level codewords → take (data_count v level) words ≡ codewords
     unfolding data_then_checks
     data_first words w = rw w (take_at codewords _ (data_count v level) long)
-
-    pub length_all : (words : List ℕ) → words ≡ data_then_checks v level codewords → length words ≡ total v
-    unfolding data_then_checks
-    length_all words w =
-        rw (w, length-append, long, length_all_checks v level codewords (block_count v level))
-        (omega (arith, data_checks v level lawful, mul_comm (check_count v level) (block_count v level)))

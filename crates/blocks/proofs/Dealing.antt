@@ -40,18 +40,12 @@ length_checks n held =
     length_divided (lower (generator n)) (length held) (held ++ replicate n 0)
     ∙ rw (length-append, length-replicate) (add-sub_cancel_left (length held) n)
 
-pub checks_long : (n k : ℕ) (held made : List ℕ) → made ≡ checks k held → k ≡ n → length made ≡ n
-checks_long n k held made e h = rw e (length_checks k held) ∙ h
-
 -- ---- blocks one after the other
 
 module _ (v level : ℕ) where
   pub length_gathered : (at : ℕ → ℕ) (b : ℕ) → length (gathered v level at b) ≡ block_length v level b
   unfolding gathered
   length_gathered at b = length_map_up_to (λ p. at (sent_place v level b p)) (block_length v level b)
-
-  pub gathered_long : (at : ℕ → ℕ) (b : ℕ) (ys : List ℕ) → ys ≡ gathered v level at b → length ys ≡ block_length v level b
-  gathered_long at b ys e = rw e (length_gathered at b)
 
   pub offset_next : (b : ℕ) → block_offset v level (suc b) ≡ block_offset v level b + block_length v level b
   unfolding block_offset sum
@@ -101,9 +95,6 @@ module _ (v level : ℕ) (lawful : Lawful v level) where
     length_data b h =
         rw (take-take (block_data v level b) (block_data v level b + check_count v level) (drop (block_offset v level b) blocks) (omega arith))
         (length-take-le (block_data v level b) (drop (block_offset v level b) blocks) (rw length-drop (omega (arith, offset_end b h))))
-
-    pub data_long : (b : ℕ) → b < block_count v level → (ys : List ℕ) → ys ≡ take (block_data v level b) (block_of v level blocks b) → length ys ≡ block_data v level b
-    data_long b h ys e = rw e (length_data b h)
 
   pub length_gathered_all : (at : ℕ → ℕ) → length (gathered_all v level at) ≡ total v
   unfolding gathered_all

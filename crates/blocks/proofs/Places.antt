@@ -1,7 +1,7 @@
 -- The closed form of a codeword's place in each of its four cases, and what the table's numbers say of it.
 use mathlib.Core.Path.{◌≡◌, refl, ◌∙◌}
 use Prim.Native.Nat.{ℕ, ◌+◌, ◌-◌, ◌*◌, ◌<◌, ◌≤◌}
-use native.Mathlib.Nat.{add-zero, add_assoc}
+use native.Mathlib.Nat.{add-zero}
 use native.Mathlib.Omega.{arith}
 use lib.Dec.{leb}
 use borrow.Author.Tests.{lt-ltb, le-ltb, le-leb, lt-leb}
@@ -12,6 +12,10 @@ use Rattle.tables.proofs.Rules.{data_most, blocks_most, block_length_most}
 use Rattle.blocks.specs.Blocks.{place_by, sent_place}
 use Rattle.blocks.specs.Sizes.{sizes_of, Modest}
 use Rattle.blocks.proofs.Order.{sent_once}
+
+-- a row starts within few codewords
+pub row_most : (p m : ℕ) → p < 256 → m ≤ 8 → p * m ≤ 2040
+row_most p m h l = grind arith
 
 module _ (D B short few b p : ℕ) where
   held_short : b < few → short + one (leb few b) ≡ short
@@ -31,13 +35,13 @@ module _ (D B short few b p : ℕ) where
   in_last h e = rw (lt-ltb p (short + one (leb few b)) (omega (arith, held_long h)), le-ltb p short (omega arith))
 
   -- a check of a short block, and of a long one
-  pub short_check : b < few → short ≤ p → place_by D B short few b p ≡ D + ((p - short) * B + b)
+  pub short_check : b < few → short ≤ p → place_by D B short few b p ≡ D + (p - short) * B + b
   unfolding place_by
-  short_check h l = rw (le-ltb p (short + one (leb few b)) (omega (arith, held_short h))) (rw (held_short h) (add_assoc D ((p - short) * B) b))
+  short_check h l = rw (le-ltb p (short + one (leb few b)) (omega (arith, held_short h))) (rw (held_short h) refl)
 
-  pub long_check : few ≤ b → short < p → place_by D B short few b p ≡ D + ((p - (short + 1)) * B + b)
+  pub long_check : few ≤ b → short < p → place_by D B short few b p ≡ D + (p - (short + 1)) * B + b
   unfolding place_by
-  long_check h l = rw (le-ltb p (short + one (leb few b)) (omega (arith, held_long h))) (rw (held_long h) (add_assoc D ((p - (short + 1)) * B) b))
+  long_check h l = rw (le-ltb p (short + one (leb few b)) (omega (arith, held_long h))) (rw (held_long h) refl)
 
 -- ---- the table's numbers
 

@@ -68,9 +68,6 @@ module _ (place : ℕ → ℕ) (part out : List ℕ) where
       walked_met place (λ k. get_or part k 0) out (length part) k l h
       (λ j less more e. let same = only k j l more e in absurd (omega arith))
 
-  pub dealt_long : (after : List ℕ) → after ≡ dealt place part out → length after ≡ length out
-  dealt_long after e = rw e dealt_length
-
 -- a front that is dealt, and then what follows it
 pub dealt_both : (place : ℕ → ℕ) (held made out out₁ out₂ : List ℕ) → out₁ ≡ dealt (λ k. place (0 + k)) held out
     → out₂ ≡ dealt (λ k. place (length held + k)) made out₁ → out₂ ≡ dealt place (held ++ made) out

@@ -21,41 +21,29 @@ fn sizes_of(v: usize, level: usize) -> Sizes
     requires { Lawful v level }
     ensures { result ≡ sizes_of v level }
 {
-    let held = tables::data(v, level);
-    let blocks = tables::blocks(v, level);
-    let short = tables::short_length(v, level);
-    let few = tables::short_blocks(v, level);
     Sizes {
-        held,
-        blocks,
-        short,
-        few,
+        held: tables::data(v, level),
+        blocks: tables::blocks(v, level),
+        short: tables::short_length(v, level),
+        few: tables::short_blocks(v, level),
     }
 }
 
-// Codeword b of row p, where a row has one codeword of each block.
-fn in_row(blocks: usize, p: usize, b: usize) -> usize
-    requires { (blocks ≤ 8) × ((p < 256) × (b < 8)) }
-    ensures { (result ≡ p * blocks + b) × (result < 2048) }
-{
-    p * blocks + b
-}
-
 // The place in the sent order of codeword p of block b.
+#[tactic(auto, using(crate::proofs::Places::row_most))]
 fn place(s: Sizes, b: usize, p: usize) -> usize
     requires { Modest s × ((b < 8) × (p < 256)) }
     ensures { result ≡ place_by s.held s.blocks s.short s.few b p }
 {
     if p < s.short {
-        return in_row(s.blocks, p, b);
+        p * s.blocks + b
+    } else if b < s.few {
+        s.held + (p - s.short) * s.blocks + b
+    } else if p == s.short {
+        p * s.blocks + (b - s.few)
+    } else {
+        s.held + (p - (s.short + 1)) * s.blocks + b
     }
-    if b < s.few {
-        return s.held + in_row(s.blocks, p - s.short, b);
-    }
-    if p == s.short {
-        return in_row(s.blocks, p, b - s.few);
-    }
-    s.held + in_row(s.blocks, p - (s.short + 1), b)
 }
 
 // Codewords of block b, from codeword `first` on, go to their places in the sent order.
@@ -65,32 +53,27 @@ fn deal(part: &[u8], v: usize, level: usize, b: usize, first: usize, out: &mut [
     ensures { out.new ≡ dealt (λ k. sent_place v level b (first + k)) part.now out.old }
 {
     let s = sizes_of(v, level);
-    let mut k: usize = 0;
-    while k < part.len() {
-        let q = place(s, b, first + k);
-        out[q] = part[k];
-        k += 1;
+    for (k, word) in part.iter().enumerate() {
+        out[place(s, b, first + k)] = *word;
     }
 }
 
 // The checks of each block are put behind the data codewords, which stand in front.
+#[tactic(auto, using(crate::proofs::Ends::held_end, crate::proofs::Ends::made_end, crate::proofs::Ends::few, tables::proofs::Rules::checks_most))]
 fn add_checks(words: &mut [u8], v: usize, level: usize)
     requires { Lawful v level × (length words.old ≡ total v) }
     ensures { words.new ≡ data_then_checks v level (take (data_count v level) words.old) }
 {
-    let blocks = tables::blocks(v, level);
     let n = tables::checks(v, level);
     let mut a: usize = 0;
     let mut c = tables::data(v, level);
-    let mut b: usize = 0;
-    while b < blocks {
+    for b in 0..tables::blocks(v, level) {
         let e = a + tables::block_data(v, level, b);
         let d = c + n;
         let made = code::remainder(&words[a..e], n);
-        copy(&made[..n], &mut words[c..d]);
+        words[c..d].copy_from_slice(&made[..n]);
         a = e;
         c = d;
-        b += 1;
     }
 }
 
@@ -105,23 +88,21 @@ fn deal_block(held: &[u8], made: &[u8], v: usize, level: usize, b: usize, out: &
 }
 
 // The blocks go to the sent order, from the data codewords in front and each block's checks behind them.
+#[tactic(auto, using(crate::proofs::Ends::held_end, crate::proofs::Ends::made_end, crate::proofs::Ends::few))]
 fn deal_blocks(words: &[u8], v: usize, level: usize, out: &mut [u8])
     requires lawful { Lawful v level × ((length words.now ≡ total v) × (length out.old ≡ total v)) }
     requires words_value { words.now ≡ data_then_checks v level (take (data_count v level) words.now) }
     ensures { out.new ≡ sent v level (take (data_count v level) words.now) }
 {
-    let blocks = tables::blocks(v, level);
     let n = tables::checks(v, level);
     let mut a: usize = 0;
     let mut c = tables::data(v, level);
-    let mut b: usize = 0;
-    while b < blocks {
+    for b in 0..tables::blocks(v, level) {
         let e = a + tables::block_data(v, level, b);
         let d = c + n;
         deal_block(&words[a..e], &words[c..d], v, level, b, out);
         a = e;
         c = d;
-        b += 1;
     }
 }
 
@@ -142,59 +123,40 @@ fn gather_block(received: &[u8], v: usize, level: usize, b: usize, out: &mut [u8
     ensures { out.new ≡ gathered v level (λ q. get_or received.now q 0) b }
 {
     let s = sizes_of(v, level);
-    let mut p: usize = 0;
-    while p < out.len() {
-        let q = place(s, b, p);
-        out[p] = received[q];
-        p += 1;
+    for (p, word) in out.iter_mut().enumerate() {
+        *word = received[place(s, b, p)];
     }
 }
 
 // What stands in the sent order, as the blocks one after the other.
+#[tactic(auto, using(crate::proofs::Dealing::offset_end, crate::proofs::Ends::few))]
 pub fn gather(received: &[u8], v: usize, level: usize, out: &mut [u8])
     requires { Lawful v level × ((length received.now ≡ total v) × (length out.old ≡ total v)) }
     ensures { out.new ≡ gathered_all v level (λ q. get_or received.now q 0) }
 {
-    let blocks = tables::blocks(v, level);
     let mut a: usize = 0;
-    let mut block: usize = 0;
-    while block < blocks {
+    for block in 0..tables::blocks(v, level) {
         let e = a + tables::block_length(v, level, block);
         gather_block(received, v, level, block, &mut out[a..e]);
         a = e;
-        block += 1;
-    }
-}
-
-// Copies a part over another of the same length.
-fn copy(from: &[u8], to: &mut [u8])
-    requires { length «from».now ≡ length to.old }
-    ensures { to.new ≡ «from».now }
-{
-    let mut k: usize = 0;
-    while k < to.len() {
-        to[k] = from[k];
-        k += 1;
     }
 }
 
 // The data codewords of blocks that stand one after the other, in block order.
+#[tactic(auto, using(crate::proofs::Ends::offset_held, crate::proofs::Ends::few, tables::proofs::Rules::block_end))]
 pub fn take_data(blocks: &[u8], v: usize, level: usize, out: &mut [u8])
     requires { Lawful v level × ((length blocks.now ≡ total v) × (length out.old ≡ data_count v level)) }
     ensures { out.new ≡ data_of v level (block_of v level blocks.now) }
 {
-    let count = tables::blocks(v, level);
     let checks = tables::checks(v, level);
     let mut w: usize = 0;
     let mut a: usize = 0;
-    let mut b: usize = 0;
-    while b < count {
+    for b in 0..tables::blocks(v, level) {
         let held = tables::block_data(v, level, b);
         let f = w + held;
         let e = a + held;
-        copy(&blocks[w..f], &mut out[a..e]);
+        out[a..e].copy_from_slice(&blocks[w..f]);
         w = f + checks;
         a = e;
-        b += 1;
     }
 }

@@ -1,16 +1,16 @@
--- The division by the generator, one data codeword at a time: what is left of the data, with the remainder so far added to its front, is what the
+-- The division by the generator, one data codeword at a time: the data that follows, with the remainder so far added to its front, is what the
 -- definition still has to divide. Lists are compared entry by entry, so that a remainder may carry zeros behind its n coefficients.
 use mathlib.Core.Path.{◌≡◌, refl, sym, ap, ap₂, ◌∙◌}
 use mathlib.Core.Logic.{by_cases}
-use mathlib.Core.List.{List, [], ◌∷◌, ◌++◌, map}
+use mathlib.Core.List.{List, [], ◌∷◌, ◌++◌, map, append_assoc, append-nil}
 use Prim.Native.Nat.{ℕ, zero, suc, ◌+◌, ◌-◌, ◌≤◌, ◌<◌}
-use native.Mathlib.Nat.{not-suc-le-zero, sub-zero}
+use native.Mathlib.Nat.{not-suc-le-zero}
 use native.Mathlib.Decide.{dec_lt}
 use native.Mathlib.Numerals.{add-one, one-add}
 use native.Mathlib.Omega.{arith}
 use lib.Bits.{bit_xor, xor_zero_r}
 use lib.ListN.{length, take, drop, get_or, set, replicate, length-append, length-drop, length-replicate, get_or-eq_default, get_or-map}
-use lib.Seq.{ext_get_or, get_or-drop, get_or-take, length-take-le, drop-cons, drop-length}
+use lib.Seq.{ext_get_or, get_or-drop, get_or-take, length-take-le, take-suc, take_all}
 use Rattle.basics.specs.Build.{build}
 use Rattle.basics.proofs.Build.{build_length, build_get}
 use Rattle.basics.proofs.Xor.{xor_assoc}
@@ -169,27 +169,39 @@ zeros_all n r h z =
     ext_get_or 0 (drop n r) (replicate (33 - n) 0) (rw (length-drop, length-replicate, h))
     (λ i l. get_or-drop n r i 0 ∙ z (n + i) (omega arith) ∙ sym (zeros_get (33 - n) i))
 
--- what is still to be divided once i data codewords are, with the remainder r
-unfoldable pub left : (n : ℕ) (held : List ℕ) (i : ℕ) (r : List ℕ) → List ℕ
-left n held i r = divided (lower (generator n)) (length held - i) (plus (drop i held ++ replicate n 0) r)
+-- what holds of the remainder r after the data codewords `done`: whatever data follows, the division of all of it goes on from r
+pub record Remains (n : ℕ) (done r : List ℕ) : Type 0 where
+  pub long : length r ≡ 33
+  pub zeros : ZerosFrom n r
+  pub on : (rest : List ℕ) → divided (lower (generator n)) (length rest) (plus (rest ++ replicate n 0) r) ≡ checks n (done ++ rest)
 
-pub left_all : (n : ℕ) (held : List ℕ) → left n held 0 (replicate 33 0) ≡ checks n held
-unfolding left checks
-left_all n held = rw sub-zero (ap (divided (lower (generator n)) (length held)) (plus_zeros (held ++ replicate n 0) (replicate 33 0) (zeros_get 33)))
+pub remains_none : (n : ℕ) → Remains n [] (replicate 33 0)
+unfolding checks
+remains_none n =
+    record {
+      long = refl;
+      zeros = λ k h. zeros_get 33 k;
+      on = λ rest. ap (divided (lower (generator n)) (length rest)) (plus_zeros (rest ++ replicate n 0) (replicate 33 0) (zeros_get 33));
+    }
 
-pub left_one : (n : ℕ) (held : List ℕ) (i : ℕ) (g r s : List ℕ) → i < length held → length r ≡ 33 → n ≤ 30 → g ≡ padded 33 (generator n)
-    → s ≡ build (reduced r g (get_or held i 0)) 32 ++ replicate 1 0 → left n held (i + 1) s ≡ left n held i r
-unfolding left
-left_one n held i g r s h hr hn eg es =
-    let more : length held - i ≡ suc (length held - suc i) = omega arith in
-    rw (add-one, more, drop-cons held i 0 h)
-    (sym
-    (divide_one (lower (generator n)) g r s (drop (suc i) held ++ replicate n 0) (get_or held i 0) (length held - suc i)
-    (λ k. lower_get (generator n) k ∙ sym (rw eg (padded_get 33 (generator n) (suc k))))
-    (reduced_get r g s (get_or held i 0) hr (rw eg (length_padded 33 (generator n) (rw (length_generator n) (omega arith)))) es)))
+pub remains_more : (n : ℕ) (held g r s : List ℕ) (i : ℕ) → n ≤ 30 → i < length held → g ≡ padded 33 (generator n)
+    → s ≡ build (reduced r g (get_or held i 0)) 32 ++ replicate 1 0 → Remains n (take i held) r → Remains n (take (i + 1) held) s
+remains_more n held g r s i hn h eg es before =
+    let d = get_or held i 0 in
+    let one : take i held ++ (d ∷ []) ≡ take (i + 1) held = rw (add-one, take-suc held i 0) in
+    record {
+      long = rw es (length-append (build (reduced r g d) 32) (replicate 1 0) ∙ rw build_length);
+      zeros = zeros_one n g r s d hn before.long eg es before.zeros;
+      on = λ rest.
+          sym
+          (divide_one (lower (generator n)) g r s (rest ++ replicate n 0) d (length rest)
+          (λ k. lower_get (generator n) k ∙ sym (rw eg (padded_get 33 (generator n) (suc k))))
+          (reduced_get r g s d before.long (rw eg (length_padded 33 (generator n) (rw (length_generator n) (omega arith)))) es))
+          ∙ before.on (d ∷ rest)
+          ∙ ap (checks n) (sym (append_assoc (take i held) (d ∷ []) rest) ∙ ap (λ (l : List ℕ). l ++ rest) one);
+    }
 
-pub left_none : (n : ℕ) (held : List ℕ) (i : ℕ) (r : List ℕ) → i ≡ length held → n ≤ length r → left n held i r ≡ take n r
-unfolding left divided
-left_none n held i r e h =
-    let none : length held - length held ≡ 0 = omega arith in
-    rw (e, none, drop-length held) (plus_take n r h)
+pub remains_all : (n : ℕ) (held r : List ℕ) (i : ℕ) → n ≤ 33 → length held ≤ i → Remains n (take i held) r → take n r ≡ checks n held
+unfolding divided
+remains_all n held r i h e all =
+    sym (plus_take n r (rw all.long h)) ∙ all.on [] ∙ ap (checks n) (append-nil (take i held) ∙ take_all i held e)

@@ -1,16 +1,20 @@
 -- Loops over a fixed number of coefficients.
 --     fill_none, fill_more, fill_all   a buffer of zeros that is filled from the front
 --     build_same                       two lists that are built of equal entries
+--     cut_padded                       a list that is built, cut after the first n entries and filled up with zeros
 use mathlib.Core.Path.{◌≡◌, refl, sym, ap₂, ◌∙◌}
 use mathlib.Core.List.{List, [], ◌∷◌, ◌++◌, append-nil}
-use Prim.Native.Nat.{ℕ, zero, suc, ◌+◌, ◌-◌, ◌<◌}
+use Prim.Native.Nat.{ℕ, zero, suc, ◌+◌, ◌-◌, ◌<◌, ◌≤◌}
 use native.Mathlib.Nat.{sub-zero}
 use native.Mathlib.Numerals.{add-one}
 use native.Mathlib.Omega.{arith}
-use lib.ListN.{set, replicate}
-use lib.Seq.{set_at, append_snoc}
+use lib.ListN.{take, drop, set, replicate, length-drop}
+use lib.Seq.{set_at, append_snoc, ext_get_or, length-take-le, get_or-take}
+use Rattle.std.proofs.lemmas.List.{drop_all}
 use Rattle.basics.specs.Build.{build}
-use Rattle.basics.proofs.Build.{build_length}
+use Rattle.basics.proofs.Build.{build_get, build_length}
+use borrow.Rule.Slice.PartMut.{put_mid}
+use Rattle.code.specs.Lanes.{padded}
 
 pub build_same : (f g : ℕ → ℕ) (n : ℕ) → ((k : ℕ) → k < n → f k ≡ g k) → build f n ≡ build g n
 unfolding build
@@ -36,3 +40,18 @@ unfolding fill
 fill_all f m k l e h =
     let none : m - m ≡ 0 = omega arith in
     e ∙ rw (h, none) (append-nil (build f m))
+
+pub take_build : (f : ℕ → ℕ) (n m : ℕ) → n ≤ m → take n (build f m) ≡ build f n
+take_build f n m h =
+    ext_get_or 0 (take n (build f m)) (build f n)
+    (length-take-le n (build f m) (rw build_length h) ∙ sym (build_length f n))
+    (λ i l.
+    let below : i < n = omega (arith, length-take-le n (build f m) (rw build_length h)) in
+    get_or-take n (build f m) i 0 below ∙ build_get f m i (omega arith) ∙ sym (build_get f n i below))
+
+pub cut_padded : (f : ℕ → ℕ) (n m : ℕ) (all zeros : List ℕ) → n ≤ m → all ≡ build f m → zeros ≡ replicate (m - n) 0
+    → put_mid n (m - n) all zeros ≡ padded m (build f n)
+unfolding padded
+cut_padded f n m all zeros h e z =
+    let past : drop (m - n) (drop n (build f m)) ≡ [] = drop_all (m - n) (drop n (build f m)) (simp (length-drop, build_length) (omega arith)) in
+    rw (e, z, take_build f n m h, build_length f n, past, append-nil (replicate {A = ℕ} (m - n) 0))

@@ -7,6 +7,8 @@ ghost use Rattle.field.specs.Field.{pow_n};
 ghost use Rattle.code.specs.Code.{value, checks, syndromes_of, generator as generator_of};
 ghost use Rattle.code.specs.Lanes.{lanes, coefficients, rooted, reduced, padded, hornered};
 
+use std::array;
+
 // The coefficients that a loop takes together: more than any block has checks, and a whole number of vectors.
 const LANES: usize = 32;
 
@@ -18,10 +20,8 @@ fn times_root(g: [u8; COEFFICIENTS], a: u8) -> [u8; COEFFICIENTS]
     ensures { result ≡ build (rooted g a) coefficients }
 {
     let mut r = g;
-    let mut k: usize = 0;
-    while k < LANES {
+    for k in 0..LANES {
         r[k + 1] = g[k + 1] ^ field::mul(a, g[k]);
-        k += 1;
     }
     r
 }
@@ -34,12 +34,9 @@ fn generator(n: usize) -> [u8; COEFFICIENTS]
     let mut g: [u8; COEFFICIENTS] = [0; COEFFICIENTS];
     g[0] = 1;
     let mut root: u8 = 1;
-    let mut roots: usize = 0;
-    while roots < n {
-        let next = times_root(g, root);
-        g = next;
+    for _ in 0..n {
+        g = times_root(g, root);
         root = field::dbl(root);
-        roots += 1;
     }
     g
 }
@@ -50,10 +47,8 @@ fn reduce(r: [u8; COEFFICIENTS], g: [u8; COEFFICIENTS], d: u8) -> [u8; COEFFICIE
 {
     let c = d ^ r[0];
     let mut s: [u8; COEFFICIENTS] = [0; COEFFICIENTS];
-    let mut k: usize = 0;
-    while k < LANES {
+    for k in 0..LANES {
         s[k] = r[k + 1] ^ field::mul(c, g[k + 1]);
-        k += 1;
     }
     s
 }
@@ -61,16 +56,14 @@ fn reduce(r: [u8; COEFFICIENTS], g: [u8; COEFFICIENTS], d: u8) -> [u8; COEFFICIE
 // The remainder of the data times x^n: its n checks, and zeros behind them.
 pub fn remainder(held: &[u8], n: usize) -> [u8; COEFFICIENTS]
     requires { n ≤ 30 }
-    ensures result_value { take n result ≡ checks n held.now }
-    ensures result_value_2 { drop n result ≡ replicate (coefficients - n) 0 }
+    ensures front { take n result ≡ checks n held.now }
+    ensures behind { drop n result ≡ replicate (coefficients - n) 0 }
 {
     let g = generator(n);
     let mut r: [u8; COEFFICIENTS] = [0; COEFFICIENTS];
-    let mut i: usize = 0;
-    while i < held.len() {
-        let next = reduce(r, g, held[i]);
+    for codeword in held {
+        let next = reduce(r, g, *codeword);
         r = next;
-        i += 1;
     }
     r
 }
@@ -80,12 +73,9 @@ pub fn checks_into(held: &[u8], out: &mut [u8])
     requires { length out.old ≤ 30 }
     ensures { out.new ≡ checks (length out.old) held.now }
 {
-    let r = remainder(held, out.len());
-    let mut j: usize = 0;
-    while j < out.len() {
-        out[j] = r[j];
-        j += 1;
-    }
+    let n = out.len();
+    let r = remainder(held, n);
+    out.copy_from_slice(&r[..n]);
 }
 
 // 1, 2, 4 and so on: the 32 first powers of 2 in the field.
@@ -94,11 +84,9 @@ fn powers() -> [u8; LANES]
 {
     let mut p: [u8; LANES] = [0; LANES];
     let mut power: u8 = 1;
-    let mut k: usize = 0;
-    while k < LANES {
-        p[k] = power;
+    for place in p.iter_mut() {
+        *place = power;
         power = field::dbl(power);
-        k += 1;
     }
     p
 }
@@ -107,13 +95,7 @@ fn powers() -> [u8; LANES]
 fn horner(s: [u8; LANES], p: [u8; LANES], c: u8) -> [u8; LANES]
     ensures { result ≡ build (hornered s p c) lanes }
 {
-    let mut r: [u8; LANES] = [0; LANES];
-    let mut k: usize = 0;
-    while k < LANES {
-        r[k] = field::mul(s[k], p[k]) ^ c;
-        k += 1;
-    }
-    r
+    array::from_fn(|k| field::mul(s[k], p[k]) ^ c)
 }
 
 // The values of the word at the 32 first powers of 2.
@@ -122,11 +104,9 @@ fn values(word: &[u8]) -> [u8; LANES]
 {
     let p = powers();
     let mut s: [u8; LANES] = [0; LANES];
-    let mut read: usize = 0;
-    while read < word.len() {
-        let next = horner(s, p, word[read]);
+    for codeword in word {
+        let next = horner(s, p, *codeword);
         s = next;
-        read += 1;
     }
     s
 }
@@ -136,12 +116,7 @@ pub fn syndromes(word: &[u8], n: usize) -> [u8; LANES]
     requires { n ≤ lanes }
     ensures { result ≡ padded lanes (syndromes_of n word.now) }
 {
-    let all = values(word);
-    let mut r: [u8; LANES] = [0; LANES];
-    let mut i: usize = 0;
-    while i < n {
-        r[i] = all[i];
-        i += 1;
-    }
-    r
+    let mut all = values(word);
+    all[n..].fill(0);
+    all
 }

@@ -1,9 +1,10 @@
 -- The unreadable places, taken out of the sums one after the other, from the last place to the first.
-use mathlib.Core.Path.{◌≡◌, refl, sym, ap, ◌∙◌, fun_ext}
+use mathlib.Core.Path.{◌≡◌, refl, sym, ap, subst, ◌∙◌, fun_ext}
 use mathlib.Core.Bool.{Bool, true, false, not, cond}
 use mathlib.Core.List.{List, ◌∷◌}
-use Prim.Native.Nat.{ℕ, zero, suc, ◌-◌, ◌≤◌, ◌<◌}
-use native.Mathlib.Numerals.{sub-one}
+use Prim.Native.Nat.{ℕ, suc, ◌+◌, ◌-◌, ◌<◌}
+use native.Mathlib.Nat.{sub-zero}
+use native.Mathlib.Numerals.{add-one}
 use native.Mathlib.Omega.{arith}
 use lib.Dec.{eqb}
 use lib.ListN.{length, get_or}
@@ -14,14 +15,6 @@ use Rattle.theory.proofs.Gf.{gf256, locators}
 use Rattle.corrector.specs.Lanes.{filled, times_plus, lowered, poly}
 use Rattle.corrector.specs.Places.{picked, marked}
 use Rattle.corrector.proofs.Rows.{Row, erased_row}
-
--- the next locator
-pub next_power : (n j x : ℕ) → j < n → x ≡ pow_n (n - suc j) → dbl_n x ≡ pow_n (n - j)
-unfolding pow_n
-next_power n j x l e = ap dbl_n e ∙ ap pow_n more
-  where
-    more : suc (n - suc j) ≡ n - j
-    more = omega arith
 
 module _ (flags s : List ℕ) where
   -- what is left to be taken out of the row makes of it what all of them make of s
@@ -41,19 +34,25 @@ module _ (flags s : List ℕ) where
   unfolding picked marked locators
   erasing_step r x j row e inv h = by_flag r x j row (ap elt (sym e)) (eqb (get_or flags j 0) 0) h ∙ inv h
 
-  -- a turn of the loop
+  pub erasing_start : Erasing s (length flags - 0)
+  erasing_start h = rw sub-zero
+
+  -- a turn of the loop, after m of them
   pub erasing_turn :
-      (r : List ℕ) (x j : ℕ) (t : List ℕ) (y : ℕ) → 0 < j → j ≤ length flags → Row r → x ≡ pow_n (length flags - j) →
-      t ≡ cond (eqb (get_or flags (j - 1) 0) 0) r (times_plus r (filled x) (lowered r 1)) → y ≡ dbl_n x → Erasing r j →
-      (j - 1 ≤ length flags) × (y ≡ pow_n (length flags - (j - 1))) × Erasing t (j - 1)
-  erasing_turn r x zero t y p l row e f g inv = absurd (omega arith)
-  erasing_turn r x (suc j) t y p l row e f g inv =
-      rw (f, sub-one (suc j)) (omega arith, g ∙ next_power (length flags) j x (omega arith) e, erasing_step r x j row e inv)
+      (r : List ℕ) (x m flag : ℕ) (t : List ℕ) (y : ℕ) → m < length flags → flag ≡ get_or flags (length flags - suc m) 0 → Row r → x ≡ pow_n m →
+      t ≡ cond (eqb flag 0) r (times_plus r (filled x) (lowered r 1)) → y ≡ dbl_n x → Erasing r (length flags - m) →
+      (y ≡ pow_n (m + 1)) × Erasing t (length flags - (m + 1))
+  unfolding pow_n
+  erasing_turn r x m flag t y l e row p f g inv =
+      let j : length flags - suc m ≡ length flags - (m + 1) = omega arith in
+      let more : length flags - m ≡ suc (length flags - suc m) = omega arith in
+      let exponent : m ≡ length flags - suc (length flags - suc m) = omega arith in (
+        rw (add-one, g, p),
+        subst (λ k. Erasing t k) j
+            (rw (f, e) (erasing_step r x (length flags - suc m) row (p ∙ ap pow_n exponent) (subst (λ k. Erasing r k) more inv))),
+      )
 
 -- the last place has the locator 1
-pub power_start : (n : ℕ) → 1 ≡ pow_n (n - n)
+pub power_start : 1 ≡ pow_n 0
 unfolding pow_n
-power_start n = ap pow_n zeroth
-  where
-    zeroth : 0 ≡ n - n
-    zeroth = omega arith
+power_start = refl

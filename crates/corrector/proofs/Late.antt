@@ -1,13 +1,16 @@
 -- Rows moved up and down.
 use mathlib.Core.Path.{◌≡◌, refl, sym, ap, ◌∙◌}
 use mathlib.Core.Logic.{by_cases}
-use mathlib.Core.List.{List}
+use mathlib.Core.List.{List, ◌++◌}
 use Prim.Native.Nat.{ℕ, zero, suc, ◌+◌, ◌-◌, ◌≤◌, ◌<◌}
 use native.Mathlib.Nat.{sub-zero, suc-sub-suc}
-use native.Mathlib.Decide.{ℕ_discrete, dec_lt}
+use native.Mathlib.Decide.{dec_lt}
 use native.Mathlib.Omega.{arith}
-use lib.ListN.{length, get_or, set, replicate, length-set, get_or-eq_default}
-use lib.Seq.{get_or-set_same, get_or-set_other, ext_get_or}
+use lib.ListN.{length, get_or, take, drop, replicate, length-append, get_or-append, get_or-eq_default}
+use Rattle.std.proofs.lemmas.List.{drop-replicate, length-replicate, length-drop, get_or-drop, get_or-append_right}
+use borrow.Rule.Slice.PartMut.{put_mid}
+use lib.Seq.{ext_get_or, get_or-take, length-take-le, take_all}
+use Rattle.basics.specs.Build.{build}
 use Rattle.basics.proofs.Build.{build_get, build_length}
 use Rattle.corrector.specs.Lanes.{late, lowered, raised}
 
@@ -15,17 +18,6 @@ zeros_at : (n k : ℕ) → get_or {A = ℕ} (replicate n 0) k 0 ≡ 0
 zeros_at zero k = refl
 zeros_at (suc n) zero = refl
 zeros_at (suc n) (suc k) = zeros_at n k
-
--- the first k entries are a's from i on, the others 0
-pub record Lowering (a : List ℕ) (i k : ℕ) (r : List ℕ) : Type 0 where
-  pub long : length r ≡ 32
-  pub front : (x : ℕ) → x < k → get_or r x 0 ≡ get_or a (i + x) 0
-  pub back : (x : ℕ) → k ≤ x → get_or r x 0 ≡ 0
-
--- the entries below h are those of a moved up by k places
-pub record Raising (a : List ℕ) (k h : ℕ) (r : List ℕ) : Type 0 where
-  pub long : length r ≡ 32
-  pub front : (x : ℕ) → x < h → get_or r x 0 ≡ late k (λ x. get_or a x 0) x
 
 pub late_low : (k h : ℕ) (f : ℕ → ℕ) → h < k → 0 ≡ late k f h
 unfolding late
@@ -45,36 +37,47 @@ late_lt zero h f b = b h
 late_lt (suc k) zero f b = omega arith
 late_lt (suc k) (suc h) f b = late_lt k h f b
 
--- ---- a row that is filled from the front
-
-pub lowered_start : (a : List ℕ) (i : ℕ) → Lowering a i 0 (replicate 32 0)
-lowered_start a i = record { long = refl; front = λ x h. absurd (omega arith); back = λ x h. zeros_at 32 x }
-
-pub lowered_all : (a r : List ℕ) (i k : ℕ) → length a ≡ 32 → 32 ≤ i + k → Lowering a i k r → r ≡ lowered a i
+-- what is left of a row from i on, and zeros behind it
+pub lowered_made : (a r : List ℕ) (i : ℕ) → length a ≡ 32 → i ≤ 32 → r ≡ take (32 - i) (drop i a) → r ++ drop (32 - i) (replicate 32 0) ≡ lowered a i
 unfolding lowered
-lowered_all a r i k la l c =
-    ext_get_or 0 r _ (c.long ∙ sym (build_length _ 32))
+lowered_made a r i la l e =
+    rw (e, take_all (32 - i) (drop i a) (omega (arith, left)), drop-replicate {X = ℕ} (32 - i) 32 0)
+    (ext_get_or 0 _ _ long
+    (λ x h.
+    by_cases
+    (dec_lt (i + x) 32)
+    (λ m. get_or-append (drop i a) _ 0 x (omega (arith, left)) ∙ get_or-drop i a x 0)
+    (λ m. get_or-append_right (drop i a) (replicate (32 - (32 - i)) 0) (32 - i) x 0 left (omega arith) ∙ zeros_at (32 - (32 - i)) (x - (32 - i)) ∙ sym (get_or-eq_default a 0 {n = i + x} (omega arith)))
+    ∙ sym (build_get _ 32 x (omega (arith, h, long, build_length (λ k. get_or a (i + k) 0) 32)))))
+  where
+    left : length (drop i a) ≡ 32 - i
+    left = rw (length-drop, la)
+
+    long : length (drop i a ++ replicate {A = ℕ} (32 - (32 - i)) 0) ≡ length (build (λ k. get_or a (i + k) 0) 32)
+    long = rw (length-append, left, length-replicate, build_length) (omega arith)
+
+-- k zeros, and the front of a row behind them
+pub raised_made : (a r : List ℕ) (k : ℕ) → length a ≡ 32 → k ≤ 32 → r ≡ take (32 - k) a → put_mid k (32 - k) (replicate 32 0) r ≡ raised a k
+unfolding raised
+raised_made a r k la l e =
+    ext_get_or 0 _ _ long
     (λ x h.
     by_cases
     (dec_lt x k)
-    (λ m. c.front x m)
-    (λ m. c.back x (omega arith) ∙ sym (get_or-eq_default a 0 {n = i + x} (omega arith)))
-    ∙ sym (build_get _ 32 x (omega (arith, c.long))))
+    (λ m. get_or-append (take k (replicate 32 0)) _ 0 x (omega (arith, left)) ∙ get_or-take k (replicate 32 0) x 0 m ∙ zeros_at 32 x ∙ late_low k x (λ x. get_or a x 0) m)
+    (λ m.
+    get_or-append_right (take k (replicate 32 0)) _ k x 0 left (omega arith)
+    ∙ get_or-append r _ 0 (x - k) (omega (arith, h, long, right, build_length (late k (λ x. get_or a x 0)) 32))
+    ∙ ap (λ t. get_or t (x - k) 0) e
+    ∙ get_or-take (32 - k) a (x - k) 0 (omega (arith, h, long, build_length (late k (λ x. get_or a x 0)) 32))
+    ∙ late_high k x (λ x. get_or a x 0) (omega arith))
+    ∙ sym (build_get _ 32 x (omega (arith, h, long, build_length (late k (λ x. get_or a x 0)) 32))))
+  where
+    left : length (take {A = ℕ} k (replicate 32 0)) ≡ k
+    left = length-take-le k (replicate 32 0) l
 
-pub raised_start : (a : List ℕ) (k : ℕ) → Raising a k k (replicate 32 0)
-raised_start a k = record { long = refl; front = λ x h. zeros_at 32 x ∙ late_low k x (λ x. get_or a x 0) h }
+    right : length r ≡ 32 - k
+    right = ap length e ∙ length-take-le (32 - k) a (omega (arith, la))
 
-pub raised_turn : (a r : List ℕ) (k h : ℕ) → k ≤ h → h < 32 → Raising a k h r → Raising a k (h + 1) (set r h (get_or a (h - k) 0))
-raised_turn a r k h l m c = record {
-  long = length-set r h _ ∙ c.long;
-  front =
-      λ x q.
-      by_cases
-      (ℕ_discrete x h)
-      (λ (p : x ≡ h). rw p (get_or-set_same r h _ 0 (omega (arith, c.long)) ∙ late_high k h (λ x. get_or a x 0) l))
-      (λ p. get_or-set_other r h x _ 0 p ∙ c.front x (omega arith));
-}
-
-pub raised_all : (a r : List ℕ) (k h : ℕ) → 32 ≤ h → Raising a k h r → r ≡ raised a k
-unfolding raised
-raised_all a r k h l c = ext_get_or 0 r _ (c.long ∙ sym (build_length _ 32)) (λ x q. c.front x (omega (arith, c.long)) ∙ sym (build_get _ 32 x (omega (arith, c.long))))
+    long : length (put_mid k (32 - k) (replicate 32 0) r) ≡ length (build (late k (λ x. get_or a x 0)) 32)
+    long = rw (length-append, left, length-append, right, build_length, length-drop (32 - k) _, length-drop k _) (omega arith)

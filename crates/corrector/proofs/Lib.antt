@@ -1,10 +1,10 @@
+pub mod Backwards
 pub mod Late
 pub mod Rows
 pub mod Running
 pub mod Erasing
 pub mod Listing
 pub mod Turns
-pub mod Mending
 pub mod Picked
 pub mod Finding
 pub mod Counting

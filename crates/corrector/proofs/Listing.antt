@@ -84,26 +84,26 @@ powers_row = record {
   bytes = λ k. by_cases (dec_lt k 32) (λ h. ltb→lt (get_or powers k 0) 256 (at 32 (λ k. ltb (get_or powers k 0) 256) bytes_tested k h)) (λ h. let e : get_or powers k 0 ≡ 0 = get_or-eq_default powers 0 {n = k} (omega arith) in omega arith);
 }
 
--- the locators of the 32 places below top
-abbrev pub Located : (n top : ℕ) (xs : List ℕ) → Type 0
-Located n top xs = (i : ℕ) → i < 32 → get_or xs i 0 ≡ pow_n (n - top + i)
+-- 32 locators in a row, the first of them that of the place before which there are k
+abbrev pub Located : (k : ℕ) (xs : List ℕ) → Type 0
+Located k xs = (i : ℕ) → i < 32 → get_or xs i 0 ≡ pow_n (k + i)
 
-pub located_start : (n : ℕ) → Located n n powers
-located_start n i l = same_1 32 (λ k. get_or powers k 0) pow_n powers_tested i l ∙ ap pow_n (omega arith)
+pub located_start : Located 0 powers
+located_start i l = same_1 32 (λ k. get_or powers k 0) pow_n powers_tested i l ∙ ap pow_n (omega arith)
 
 -- 157 is 2 to the power 32
 stride : pow_n 32 ≡ 157
 unfolding pow_n
 stride = refl
 
-pub located_turn : (n top : ℕ) (xs : List ℕ) → 32 ≤ top → top ≤ n → Located n top xs → Located n (top - 32) (times_plus xs (filled 157) (filled 0))
+pub located_turn : (k : ℕ) (xs : List ℕ) → Located k xs → Located (k + 32) (times_plus xs (filled 157) (filled 0))
 unfolding times_plus filled
-located_turn n top xs l m e i h =
+located_turn k xs e i h =
     build_get _ 32 i h
     ∙ ap₂ (λ (x y : ℕ). bit_xor (mul_n (get_or xs i 0) x) y) (filled_at 32 157 i h) (zeros_at 32 i)
     ∙ xor_zero_r _
     ∙ ap₂ mul_n (e i h) (sym stride)
-    ∙ pow_add (n - top + i) 32
+    ∙ pow_add (k + i) 32
     ∙ ap pow_n (omega arith)
 
 -- the test of a place by the code is that of the definition

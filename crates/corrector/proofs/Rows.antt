@@ -1,23 +1,23 @@
 -- What a row stands for after each of the steps on lanes.
 use mathlib.Core.Path.{◌≡◌, refl, sym, ap, ap₂, ◌∙◌}
 use mathlib.Core.Logic.{by_cases}
-use mathlib.Core.List.{List, ◌∷◌}
+use mathlib.Core.List.{List, [], ◌∷◌}
 use Prim.Native.Nat.{ℕ, zero, suc, ◌+◌, ◌≤◌, ◌<◌}
-use native.Mathlib.Numerals.{add-one, one-add}
+use native.Mathlib.Numerals.{one-add}
 use native.Mathlib.Decide.{dec_lt}
 use native.Mathlib.Omega.{arith}
 use mir.Val.{Fits}
 use mir.Syntax.{w8}
-use lib.Bits.{bit_xor, xor_lt}
+use lib.Bits.{bit_xor}
 use lib.ListN.{length, get_or, replicate, get_or-eq_default}
+use Rattle.std.specs.List.{fold}
 use Rattle.basics.specs.Build.{build}
 use Rattle.basics.proofs.Build.{build_get, build_length}
-use Rattle.field.proofs.Laws.{mul_lt}
 use Rattle.field.proofs.Byte.{Byte, elt, add, elt_add, elt_mul}
 use Rattle.theory.proofs.Sum.{sum}
 use Rattle.theory.proofs.Run.{act, Below, shift, mix}
 use Rattle.theory.proofs.Places.{erase}
-use Rattle.theory.proofs.Algebra.{zero-⊗, ⊕_zero, ⊕_comm, ⊗_comm, sum_cong}
+use Rattle.theory.proofs.Algebra.{zero-⊕, zero-⊗, ⊕_zero, ⊕_assoc, ⊕_comm, ⊗_comm, sum_cong, sum_front}
 use Rattle.theory.proofs.Massey.{mix_below}
 use Rattle.theory.proofs.Gf.{gf256}
 use Rattle.corrector.specs.Lanes.{filled, times_plus, lowered, late, raised, poly}
@@ -78,9 +78,18 @@ unit_row = record { long = refl; bytes = small }
     small zero = omega arith
     small (suc k) = rw (zeros_at 31 k) (omega arith)
 
-pub total_step : (a : List ℕ) (i r : ℕ) → elt r ≡ sum gf256 i (poly a) → elt (bit_xor r (get_or a i 0)) ≡ sum gf256 (i + 1) (poly a)
+fold_total : (r : ℕ) (xs : List ℕ) → elt (fold bit_xor r xs) ≡ elt r ⊕ sum gf256 (length xs) (poly xs)
 unfolding sum
-total_step a i r e = rw add-one (elt_add r (get_or a i 0) ∙ ap (λ x. add x (elt (get_or a i 0))) e)
+fold_total r [] = sym (⊕_zero gf256 (elt r))
+fold_total r (x ∷ xs) =
+    fold_total (bit_xor r x) xs
+    ∙ ap (λ y. y ⊕ sum gf256 (length xs) (poly xs)) (elt_add r x)
+    ∙ ⊕_assoc gf256 (elt r) (elt x) (sum gf256 (length xs) (poly xs))
+    ∙ ap (λ y. elt r ⊕ y) (sym (sum_front gf256 (length xs) (poly (x ∷ xs))))
+
+-- the entries added one after the other
+pub totalled : (a : List ℕ) (r : ℕ) → length a ≡ 32 → r ≡ fold bit_xor 0 a → elt r ≡ sum gf256 32 (poly a)
+totalled a r l e = ap elt e ∙ fold_total 0 a ∙ zero-⊕ gf256 _ ∙ ap (λ n. sum gf256 n (poly a)) l
 
 pub poly_times : (a b c : List ℕ) → Row a → length b ≡ 32 → length c ≡ 32 → (k : ℕ) → poly (times_plus a b c) k ≡ poly a k ⊗ poly b k ⊕ poly c k
 unfolding times_plus
@@ -138,18 +147,6 @@ lowered_row a i b = record {
       (dec_lt k 32)
       (λ h. rw (build_get _ 32 k h) (b (i + k)))
       (λ h. let e : get_or (lowered a i) k 0 ≡ 0 = get_or-eq_default (lowered a i) 0 (rw (lowered_length a i) (omega arith)) in omega arith);
-}
-
-pub times_bytes : (a b c : List ℕ) → Row a → ((k : ℕ) → get_or c k 0 < 256) → Row (times_plus a b c)
-unfolding times_plus
-times_bytes a b c ra bc = record {
-  long = build_length _ 32;
-  bytes =
-      λ k.
-      by_cases
-      (dec_lt k 32)
-      (λ h. rw (build_get _ 32 k h) (xor_lt 8 _ _ (mul_lt (get_or a k 0) (get_or b k 0) (ra.bytes k)) (bc k)))
-      (λ h. let e : get_or (times_plus a b c) k 0 ≡ 0 = get_or-eq_default (times_plus a b c) 0 (rw build_length (omega arith)) in omega arith);
 }
 
 -- the sum of the lanes of a product with what is left of s from i on is what the polynomial is on that window

@@ -3,37 +3,54 @@ use mathlib.Core.Path.{◌≡◌, refl, sym, ap, ap₂, subst, ◌∙◌}
 use mathlib.Core.Bool.{Bool, true, false, not, ◌&&◌}
 use mathlib.Core.Logic.{by_cases}
 use mathlib.Core.List.{List}
-use Prim.Native.Nat.{ℕ, zero, suc, ◌+◌, ◌≤◌, ◌<◌}
+use Prim.Native.Nat.{ℕ, zero, suc, ◌+◌, ◌≤◌}
 use native.Mathlib.Decide.{dec_lt}
 use native.Mathlib.Omega.{arith}
 use lib.Dec.{eqb}
 use lib.ListN.{length, get_or, take}
 use lib.Seq.{ext_get_or, get_or-take, length-take-le}
 use borrow.Author.Tests.{eq-eqb}
+use Rattle.std.specs.Str.{bytes_eq}
+use Rattle.std.proofs.lemmas.Slice.Eq.{bytes_eq-Decides}
 use Rattle.basics.specs.Sums.{sum, one, tally}
 use Rattle.code.specs.Code.{Codeword, Stands, syndromes_of, differing, unreadable}
 use Rattle.code.specs.Lanes.{lanes, padded}
 use Rattle.code.proofs.Bridge.{Bytes, syndromes_get, syndromes_zero}
-use Rattle.corrector.specs.Correct.{FirstNonzero, Proposed, Tested}
+use Rattle.corrector.specs.Correct.{Proposed, Tested}
+use Rattle.corrector.specs.Lanes.{filled}
+use Rattle.corrector.proofs.Rows.{zeros_at}
 use Rattle.std.specs.Prelude.{None}
-use Rattle.corrector.proofs.Counting.{tally_most}
+use Rattle.basics.proofs.Sums.{tally_le}
 
-module _ {n : ℕ} {c s : List ℕ} {r : ℕ} (few : n ≤ 30) (e : s ≡ padded lanes (syndromes_of n c)) (f : FirstNonzero s r) where
-  pub zeros_codeword : 32 ≤ r → Bytes c → Codeword n c
-  zeros_codeword h b = record { bytes = b; zeros = λ i l. sym (syndromes_get n i c l) ∙ ap (λ t. get_or t i 0) (sym e) ∙ f.before i (omega arith) }
+module _ {n : ℕ} {c s : List ℕ} (few : n ≤ 30) (e : s ≡ padded lanes (syndromes_of n c)) where
+  pub zeros_codeword : s ≡ filled 0 → Bytes c → Codeword n c
+  unfolding filled
+  zeros_codeword z b = record { bytes = b; zeros = λ i l. sym (syndromes_get n i c l) ∙ ap (λ t. get_or t i 0) (sym e ∙ z) ∙ zeros_at 32 i }
 
-  pub no_codeword : r < 32 → Codeword n c → ⊥
-  no_codeword h k =
-      f.here h
-      (ap (λ t. get_or t r 0) e ∙ by_cases (dec_lt r n) (λ l. syndromes_get n r c l ∙ k.zeros r l) (λ l. syndromes_zero n r c (omega arith)))
+  pub codeword_zeros : length s ≡ 32 → Codeword n c → s ≡ filled 0
+  unfolding filled
+  codeword_zeros l k =
+      ext_get_or 0 s (filled 0) l
+      (λ i h. ap (λ t. get_or t i 0) e ∙ by_cases (dec_lt i n) (λ m. syndromes_get n i c m ∙ k.zeros i m) (λ m. syndromes_zero n i c (omega arith)) ∙ sym (zeros_at 32 i))
+
+-- what the test of two rows answers
+pub equal_rows : (a b : List ℕ) → false ≡ not (bytes_eq a b) → a ≡ b
+equal_rows a b e = (bytes_eq-Decides a b).0 (flipped (bytes_eq a b) e)
+  where
+    flipped : (r : Bool) → false ≡ not r → r ≡ true
+    flipped true e = refl
+    flipped false e = e
+
+pub unequal_rows : (a b : List ℕ) → true ≡ not (bytes_eq a b) → a ≡ b → ⊥
+unequal_rows a b e p = let z : true ≡ false = e ∙ ap not ((bytes_eq-Decides a b).1 p) in let z' : ◌≡◌ {A = ℕ} 1 0 = ap one z in omega arith
 
 pub differing_most : (w flags c : List ℕ) → differing w flags c ≤ length w
 unfolding differing
-differing_most w flags c = tally_most _ (length w)
+differing_most w flags c = tally_le (length w) _
 
 pub unreadable_most : (flags : List ℕ) → unreadable flags ≤ length flags
 unfolding unreadable
-unreadable_most flags = tally_most _ (length flags)
+unreadable_most flags = tally_le (length flags) _
 
 -- ---- what the corrector answers
 
@@ -51,13 +68,13 @@ none_differs w flags = none_passes _ (λ j. ap (λ b. eqb (get_or flags j 0) 0 &
     last false = refl
 
 -- a block whose syndromes are zeros and whose codewords are all readable stands for itself
-pub clean : {n room : ℕ} {w flags s : List ℕ} {e r : ℕ} → n ≤ 30 → s ≡ padded lanes (syndromes_of n w) → FirstNonzero s r → r ≡ 32 → Bytes w
+pub clean : {n room : ℕ} {w flags s : List ℕ} {e : ℕ} → n ≤ 30 → s ≡ padded lanes (syndromes_of n w) → s ≡ filled 0 → Bytes w
     → e ≡ unreadable flags → e ≡ 0 → Stands n room w flags w 0 0
-clean {flags = flags} few p f h b q z = record {
-  codeword = zeros_codeword few p f (omega arith) b;
+clean {flags = flags} few p z b q y = record {
+  codeword = zeros_codeword few p z b;
   long = refl;
   differs = sym (none_differs _ flags);
-  missing = sym z ∙ q;
+  missing = sym y ∙ q;
   near = omega arith;
 }
 

@@ -73,14 +73,12 @@ pub valued_start : (a xs : List ℕ) (m : ℕ) → Below gf256 m (poly a) → Va
 valued_start a xs m b i l = poly_zeros i ∙ sym (tail_end gf256 32 (poly a) (poly xs i) m b)
 
 pub valued_turn :
-    (a xs r : List ℕ) (k : ℕ) → 0 < k → Row a → Row r → length xs ≡ 32 → Valued a xs r k → Valued a xs (times_plus r xs (filled (get_or a (k - 1) 0))) (k - 1)
-valued_turn a xs r zero p ra rr lx e i l = absurd (omega arith)
-valued_turn a xs r (suc k) p ra rr lx e i l =
-    rw (sub-one (suc k))
-    (poly_times r xs (filled (get_or a k 0)) rr lx (filled_length (get_or a k 0)) i
-    ∙ ap₂ (λ u v. u ⊗ poly xs i ⊕ v) (e i l) (poly_filled (get_or a k 0) i l)
+    (a xs r : List ℕ) (k x : ℕ) → Row a → Row r → length xs ≡ 32 → x ≡ get_or a k 0 → Valued a xs r (suc k) → Valued a xs (times_plus r xs (filled x)) k
+valued_turn a xs r k x ra rr lx p e i l =
+    poly_times r xs (filled x) rr lx (filled_length x) i
+    ∙ ap₂ (λ u v. u ⊗ poly xs i ⊕ v) (e i l) (poly_filled x i l ∙ ap elt p)
     ∙ turned _ _ _
-    ∙ sym (tail_step gf256 32 (poly a) (poly xs i) k (row_below ra)))
+    ∙ sym (tail_step gf256 32 (poly a) (poly xs i) k (row_below ra))
 
 abbrev pub Sloped : (a xs r : List ℕ) (k : ℕ) → Type 0
 Sloped a xs r k = (i : ℕ) → i < 32 → poly r i ≡ slopes gf256 32 (poly a) (poly xs i) k
@@ -89,14 +87,12 @@ pub sloped_start : (a xs : List ℕ) (m : ℕ) → Below gf256 m (poly a) → Sl
 sloped_start a xs m b i l = poly_zeros i ∙ sym (slopes_end gf256 32 (poly a) (poly xs i) m b)
 
 pub sloped_turn :
-    (a xs r p : List ℕ) (k : ℕ) → 0 < k → Row a → Row r → length xs ≡ 32 → length p ≡ 32 → Valued a xs p k → Sloped a xs r k → Sloped a xs (times_plus r xs p) (k - 1)
-sloped_turn a xs r p zero q ra rr lx lp v e i l = absurd (omega arith)
-sloped_turn a xs r p (suc k) q ra rr lx lp v e i l =
-    rw (sub-one (suc k))
-    (poly_times r xs p rr lx lp i
+    (a xs r p : List ℕ) (k : ℕ) → Row a → Row r → length xs ≡ 32 → length p ≡ 32 → Valued a xs p (suc k) → Sloped a xs r (suc k) → Sloped a xs (times_plus r xs p) k
+sloped_turn a xs r p k ra rr lx lp v e i l =
+    poly_times r xs p rr lx lp i
     ∙ ap₂ (λ u w. u ⊗ poly xs i ⊕ w) (e i l) (v i l)
     ∙ turned _ _ _
-    ∙ sym (slopes_step gf256 32 (poly a) (poly xs i) k (row_below ra)))
+    ∙ sym (slopes_step gf256 32 (poly a) (poly xs i) k (row_below ra))
 
 -- ---- inverses
 

@@ -17,11 +17,9 @@ pub record Asked (word flags s : List ℕ) (n e : ℕ) : Type 0 where
 abbrev pub Proposed : (n : ℕ) (word flags r : List ℕ) → Type 0
 Proposed n word flags r = (room : ℕ) (c : List ℕ) (t e : ℕ) → room ≤ n → Stands n room word flags c t e → (j : ℕ) → j < length word → get_or r j 0 ≡ get_or c j 0
 
--- the first entry that is not 0, or 32
-pub record FirstNonzero (s : List ℕ) (r : ℕ) : Type 0 where
-  pub most : r ≤ 32
-  pub before : (k : ℕ) → k < r → get_or s k 0 ≡ 0
-  pub here : r < 32 → get_or s r 0 ≡ 0 → ⊥
+-- within the bound of n checks the block stands for no codeword
+abbrev pub StandsForNone : (n : ℕ) (word flags : List ℕ) → Type 0
+StandsForNone n word flags = (room : ℕ) (c : List ℕ) (t e : ℕ) → room ≤ n → Stands n room word flags c t e → ⊥
 
 -- the block stands for c with these counts, or with none
 abbrev pub Tested : (n room : ℕ) (word flags c : List ℕ) → Option Counts → Type 0

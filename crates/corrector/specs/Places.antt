@@ -42,13 +42,6 @@ Noted flag v j x at xs count at' xs' count' =
     (flags a : List ℕ) → j < length flags → suspect flags a j ≡ not (eqb flag 0) || eqb v 0 → x ≡ pow_n (length flags - suc j) →
     Found flags a (suc j) at xs count → Found flags a j at' xs' count'
 
--- the lesser of a number and 32
-pub record Least (top r : ℕ) : Type 0 where
-  pub small : r ≤ 32
-  pub within : r ≤ top
-  pub full : r < top → r ≡ 32
-  pub some : 0 < top → 0 < r
-
 -- many places below top are walked, from the greatest down: listed for any polynomial whose values at their locators xs are the vs
 abbrev pub Grouped : (flags vs xs : List ℕ) (top many : ℕ) (at ys : List ℕ) (count : ℕ) (at' ys' : List ℕ) (count' : ℕ) → Type 0
 Grouped flags vs xs top many at ys count at' ys' count' =

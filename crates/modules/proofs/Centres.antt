@@ -1,23 +1,20 @@
--- Alignment centres: at most three, and each leaves room for its pattern; one pattern more keeps the matrix's length.
-use mathlib.Core.Path.{◌≡◌, refl, ap, ◌∙◌}
+-- Alignment centres: at most three, and each leaves room for its pattern; one pattern more.
+use mathlib.Core.Path.{◌≡◌, ap, ◌∙◌}
 use mathlib.Core.Logic.{⊎_elim}
-use mathlib.Core.Bool.{Bool, true, false, cond}
+use mathlib.Core.Bool.{Bool, true, false}
 use mathlib.Core.List.{List}
-use Prim.Native.Nat.{ℕ, zero, suc, ◌+◌, ◌-◌, ◌*◌, ◌/◌, ◌%◌, ◌≤◌, ◌<◌}
-use native.Mathlib.Nat.{not-suc-le-zero, mod-lt}
-use native.Mathlib.Numerals.{add-one}
+use Prim.Native.Nat.{ℕ, suc, ◌+◌, ◌-◌, ◌*◌, ◌/◌, ◌%◌, ◌≤◌, ◌<◌}
+use native.Mathlib.Nat.{add-zero, zero-mul, mul-add-div_right, mul-add-mod_self_right, div-eq_of_lt, mod-eq_of_lt}
 use native.Mathlib.Omega.{arith}
 use lib.Dec.{T, leb, leb→le}
 use lib.ListN.{length, get_or, set}
 use Rattle.basics.specs.Bits.{bit_of}
 use Rattle.basics.specs.Walk.{walked}
-use Rattle.basics.proofs.Walk.{walked_length}
-use Rattle.basics.proofs.Test.{all, at, grid, both, either, either_cases}
+use Rattle.basics.proofs.Test.{all, at, both, either, either_cases}
 use Rattle.tables.specs.Tables.{side, centres}
 use Rattle.modules.specs.Kinds.{square_place, timing_place, timing_value, format_place, format_value, alignment_dark, at_finder, aligned_one, aligned, frame_on}
 use Rattle.modules.proofs.Open.{every}
 use Rattle.modules.proofs.Tests.{versions, at_version, both_left, both_right}
-use Rattle.modules.proofs.Places.{row_lt}
 
 few_tested : T (versions (λ v. leb (length (centres v)) 3))
 unfolding every
@@ -47,84 +44,45 @@ module _ (v : ℕ) (least : 1 ≤ v) (most : v ≤ 10) where
       past : length (centres v) ≤ k → ⊥
       past l = omega arith
 
-pub some : (n t : ℕ) → t < n * n → 1 ≤ n
-some zero t h = absurd (not-suc-le-zero h)
-some (suc n) t h = omega arith
-
-either_length : (t : Bool) (a b : List ℕ) → length b ≡ length a → length (cond t a b) ≡ length a
-either_length true a b e = refl
-either_length false a b e = e
-
-pub aligned_one_length : (v t : ℕ) (out : List ℕ) → length (aligned_one v t out) ≡ length out
-unfolding aligned_one
-aligned_one_length v t out =
-    let n = length (centres v) in
-    let i = get_or (centres v) (t / n) 0 in
-    let j = get_or (centres v) (t % n) 0 in
-    either_length (at_finder n (t / n) (t % n)) out (walked (square_place (side v) (i - 2) (j - 2) 5) (bit_of alignment_dark) 25 out)
-    (walked_length (square_place (side v) (i - 2) (j - 2) 5) (bit_of alignment_dark) out 25)
-
-pub aligned_length : (v t : ℕ) (out : List ℕ) → length (aligned v t out) ≡ length out
+pub aligned_none : (v n : ℕ) (out : List ℕ) → out ≡ aligned v (0 * n) out
 unfolding aligned
-aligned_length v zero out = refl
-aligned_length v (suc t) out = aligned_one_length v t (aligned v t out) ∙ aligned_length v t out
+aligned_none v n out = rw zero-mul
 
-pub aligned_none : (v : ℕ) (out : List ℕ) → out ≡ aligned v 0 out
+-- a row of pairs begins, one pair more, and the row ends
+pub aligned_row : (v a n : ℕ) (out₀ out : List ℕ) → out ≡ aligned v (a * n) out₀ → out ≡ aligned v (a * n + 0) out₀
+aligned_row v a n out₀ out e = rw add-zero e
+
+pub aligned_more : (v a n b : ℕ) (out₀ out out' : List ℕ) → out ≡ aligned v (a * n + b) out₀ → out' ≡ aligned_one v (a * n + b) out → out' ≡ aligned v (a * n + (b + 1)) out₀
 unfolding aligned
-aligned_none v out = refl
+aligned_more v a n b out₀ out out' e q =
+    let one : a * n + (b + 1) ≡ suc (a * n + b) = omega arith in
+    q ∙ rw (one, e)
 
-pub aligned_more : (v t : ℕ) (out₀ out out' : List ℕ) → out ≡ aligned v t out₀ → out' ≡ aligned_one v t out → out' ≡ aligned v (t + 1) out₀
-unfolding aligned
-aligned_more v t out₀ out out' e q = q ∙ rw (add-one, e)
-
-pub drawn_length : (v t : ℕ) (out₀ out : List ℕ) → out ≡ aligned v t out₀ → length out ≡ length out₀
-drawn_length v t out₀ out e = ap length e ∙ aligned_length v t out₀
+pub aligned_rows : (v a n b : ℕ) (out₀ out : List ℕ) → out ≡ aligned v (a * n + b) out₀ → b ≡ n → out ≡ aligned v ((a + 1) * n) out₀
+aligned_rows v a n b out₀ out e h =
+    let count : a * n + b ≡ (a + 1) * n = omega arith in
+    rw count at e
 
 -- ---- one pattern, from the numbers as the code has them
 
-pub record Pair (n t : ℕ) : Type 0 where
-  pub positive : 0 < n
-  pub few : n ≤ 3
-  pub first : t / n < n
-  pub second : t % n < n
+-- pair (a, b) of n centres, by its number
+row_of : (n a b : ℕ) → b < n → (a * n + b) / n ≡ a
+row_of n a b h = let some : 0 < n = omega arith in mul-add-div_right some a b ∙ ap (λ (k : ℕ). a + k) (div-eq_of_lt h) ∙ add-zero a
 
-pub pair : (v n t : ℕ) → 1 ≤ v → v ≤ 10 → n ≡ length (centres v) → t < length (centres v) * length (centres v) → Pair n t
-pair v n t least most e h =
-    let l : t < n * n = rw e h in
-    let one : 1 ≤ n = some n t l in
-    record { positive = one; few = rw e (centres_few v least most); first = row_lt n t one l; second = mod-lt t one }
+column_of : (n a b : ℕ) → b < n → (a * n + b) % n ≡ b
+column_of n a b h = mul-add-mod_self_right a n b ∙ mod-eq_of_lt h
 
-pub aligned_skip : (v t n : ℕ) (out : List ℕ) → n ≡ length (centres v) → at_finder n (t / n) (t % n) ≡ true → out ≡ aligned_one v t out
-unfolding aligned_one
-aligned_skip v t n out e f = rw (rw e at f)
+module _ (v a b n : ℕ) (e : n ≡ length (centres v)) (h : b < length (centres v)) where
+  pub aligned_skip : (out : List ℕ) → at_finder n a b ≡ true → out ≡ aligned_one v (a * length (centres v) + b) out
+  unfolding aligned_one
+  aligned_skip out f = rw (row_of _ a b h, column_of _ a b h, rw e at f)
 
-pub aligned_square : (v t n i j s : ℕ) (out out' : List ℕ) → n ≡ length (centres v) → at_finder n (t / n) (t % n) ≡ false
-    → i ≡ get_or (centres v) (t / n) 0 → j ≡ get_or (centres v) (t % n) 0 → s ≡ side v
-    → out' ≡ walked (square_place s (i - 2) (j - 2) 5) (bit_of alignment_dark) 25 out → out' ≡ aligned_one v t out
-unfolding aligned_one
-aligned_square v t n i j s out out' e f hi hj hs q =
-    q ∙ rw (hs, hi, hj, e, rw e at f)
-
-pub small_product : (a b : ℕ) → a < 3 → b < 3 → a * b ≤ 4
-small_product a b ha hb = leb→le _ _ (grid 3 3 (λ a b. leb (a * b) 4) tt a b ha hb)
-
-pub record Room (i j s : ℕ) : Type 0 where
-  pub up : 2 ≤ i
-  pub down : i - 2 + 5 ≤ s
-  pub left : 2 ≤ j
-  pub right : j - 2 + 5 ≤ s
-  pub small : s ≤ 57
-
-pub room : (v n t i j s : ℕ) → 1 ≤ v → v ≤ 10 → n ≡ length (centres v) → t < length (centres v) * length (centres v)
-    → i ≡ get_or (centres v) (t / n) 0 → j ≡ get_or (centres v) (t % n) 0 → s ≡ side v → Room i j s
-room v n t i j s least most e h hi hj hs =
-    let p = pair v n t least most e h in
-    let a = centre_inside v least most (t / n) (omega arith) in
-    let b = centre_inside v least most (t % n) (omega arith) in
-    record { up = omega arith; down = omega arith; left = omega arith; right = omega arith; small = omega arith }
-
-pub squared : (n : ℕ) → n ≤ 3 → n * n ≤ 9
-squared n h = leb→le _ _ (at 4 (λ n. leb (n * n) 9) tt n (omega arith))
+  pub aligned_square : (i j s : ℕ) (out out' : List ℕ) → at_finder n a b ≡ false
+      → i ≡ get_or (centres v) a 0 → j ≡ get_or (centres v) b 0 → s ≡ side v
+      → out' ≡ walked (square_place s (i - 2) (j - 2) 5) (bit_of alignment_dark) 25 out → out' ≡ aligned_one v (a * length (centres v) + b) out
+  unfolding aligned_one
+  aligned_square i j s out out' f hi hj hs q =
+      q ∙ rw (hs, hi, hj, row_of (length (centres v)) a b h, column_of (length (centres v)) a b h, rw e at f)
 
 -- timing, alignment, format bits and one store, from the numbers and the matrices as the code has them
 pub frame_made : (v s p : ℕ) (out out₁ out₂ out₃ : List ℕ) → s ≡ side v → out₁ ≡ walked (timing_place s) timing_value (2 * (s - 16)) out

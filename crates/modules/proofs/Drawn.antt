@@ -2,17 +2,27 @@
 use mathlib.Core.Path.{◌≡◌, refl, ap₂, subst}
 use mathlib.Core.Bool.{Bool, true, false, ◌&&◌}
 use mathlib.Core.List.{List, [], ◌∷◌}
-use Prim.Native.Nat.{ℕ, ◌+◌, ◌-◌, ◌*◌, ◌≤◌, ◌<◌}
+use Prim.Native.Nat.{ℕ, ◌+◌, ◌-◌, ◌*◌, ◌/◌, ◌%◌, ◌≤◌, ◌<◌}
 use native.Mathlib.Omega.{arith}
 use lib.Dec.{T, eqb, eqb→eq}
-use lib.ListN.{replicate}
+use lib.ListN.{replicate, get_or}
 use Rattle.basics.specs.Lists.{same}
 use Rattle.basics.specs.Walk.{walked}
 use Rattle.basics.proofs.Test.{all, at}
 use Rattle.tables.specs.Tables.{side}
 use Rattle.words.specs.Words.{version_word}
+use Rattle.modules.specs.Modules.{format_places, version_places}
 use Rattle.modules.specs.Kinds.{kinds, square_place, timing_place, timing_value, format_place, format_value, version_place, version_value, at_finder, aligned_one, aligned, finders_on, frame_on}
 use Rattle.modules.proofs.Open.{every}
+use Rattle.modules.proofs.Geometry.{word_places}
+
+-- the place of turn t is in a matrix of the version's length
+pub format_inside : (v t n p : ℕ) → 1 ≤ v → v ≤ 10 → t < 30 → side v * side v ≤ n → p ≡ get_or (format_places v (t % 2)) (t / 2) 0 → p < n
+format_inside v t n p least most h room e = omega (arith, (word_places v least most).format_inside (t % 2) (t / 2) (omega arith) (omega arith))
+
+pub version_inside : (v t n p : ℕ) → 7 ≤ v → v ≤ 10 → t < 36 → side v * side v ≤ n → p ≡ get_or (version_places v (t % 2)) (t / 2) 0 → p < n
+version_inside v t n p least most h room e =
+    omega (arith, (word_places v (omega arith) most).version_inside (t % 2) (t / 2) least (omega arith) (omega arith))
 
 unfoldable pub below7 : (v : ℕ) → List ℕ
 below7 v = frame_on v (finders_on (side v) (replicate (side v * side v) 2))

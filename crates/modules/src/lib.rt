@@ -10,7 +10,8 @@ ghost use Rattle.tables.specs.Tables.{side as side_of, centres, last_version, La
 ghost use Rattle.modules.specs.Modules.{format_places, version_places, pair_column};
 ghost use Rattle.modules.specs.Kinds.{Gives, kinds as kinds_of, row_flips, square_place, timing_place, timing_value, format_place, format_value, version_place, version_value, at_finder, aligned_one, aligned, finders_on, frame_on, laid, finished, tinted, filling, put as put_one, put_all, pair_place};
 
-// The kind of a data module that is not filled, or filled by 0.
+// The kind of a data module that is not filled, or filled by 0. A kind is a byte and no enum: callers lend the matrices of kinds, and `tint` takes a kind as the
+// number of its colour's bit.
 const DATA: u8 = 2;
 
 // The kind of bit 0 of the format word.
@@ -80,14 +81,14 @@ pub fn format_place(v: usize, copy: usize, b: usize) -> usize
     ensures { result ≡ get_or (format_places v copy) b 0 }
 {
     let s = tables::side(v);
+    // the long runs of bits first
     if copy == 1 {
-        return if b <= 7 {
+        if b <= 7 {
             place(s, 8, s - 1 - b)
         } else {
             place(s, s - 15 + b, 8)
-        };
-    }
-    if b <= 5 {
+        }
+    } else if b <= 5 {
         place(s, b, 8)
     } else if b >= 9 {
         place(s, 8, 14 - b)
@@ -130,6 +131,7 @@ fn draw<P: Fn(usize) -> usize, K: Fn(usize) -> u8>(out: &mut [u8], turns: usize,
 }
 
 // A square of side w: dark where a bit is set, row by row.
+#[tactic(auto, unfolding(crate::specs::Kinds::square_place))]
 fn square(out: &mut [u8], s: usize, top: usize, left: usize, w: usize, dark: u64)
     requires { (1 ≤ w) × ((w ≤ 8) × ((s ≤ 57) × ((top + w ≤ s) × ((left + w ≤ s) × (s * s ≤ length out.old))))) }
     ensures { out.new ≡ walked (square_place s top left w) (bit_of dark) (w * w) out.old }
@@ -157,6 +159,7 @@ fn timing_place(s: usize, t: usize) -> usize
 }
 
 // Row 6 and column 6 between the finders, dark at even index.
+#[tactic(auto, unfolding(crate::specs::Kinds::timing_value))]
 fn timing(out: &mut [u8], s: usize)
     requires { (21 ≤ s) × ((s ≤ 57) × (s * s ≤ length out.old)) }
     ensures { out.new ≡ walked (timing_place s) timing_value (2 * (s - 16)) out.old }
@@ -170,6 +173,7 @@ fn timing(out: &mut [u8], s: usize)
 }
 
 // The kinds of the format word's bits, in both copies.
+#[tactic(auto, unfolding(crate::specs::Kinds::format_place, crate::specs::Kinds::format_value))]
 fn formats(out: &mut [u8], v: usize)
     requires { (1 ≤ v) × ((v ≤ last_version) × (side_of v * side_of v ≤ length out.old)) }
     ensures { out.new ≡ walked (format_place v) format_value 30 out.old }
@@ -183,6 +187,7 @@ fn formats(out: &mut [u8], v: usize)
 }
 
 // The bits of the version word, in both copies.
+#[tactic(auto, unfolding(crate::specs::Kinds::version_place, crate::specs::Kinds::version_value))]
 fn versions(out: &mut [u8], v: usize, word: u64)
     requires { (7 ≤ v) × ((v ≤ last_version) × (side_of v * side_of v ≤ length out.old)) }
     ensures { out.new ≡ walked (version_place v) (version_value word) 36 out.old }
@@ -204,15 +209,13 @@ fn at_finder(n: usize, a: usize, b: usize) -> bool
     a * b == 0 && (a + b == 0 || a + b + 1 == n)
 }
 
-// The alignment pattern at pair t of the listed centres, none at a finder.
-fn alignment(out: &mut [u8], v: usize, t: usize)
-    requires { (1 ≤ v) × ((v ≤ last_version) × ((t < length (centres v) * length (centres v)) × (side_of v * side_of v ≤ length out.old))) }
-    ensures { out.new ≡ aligned_one v t out.old }
+// The alignment pattern at pair (a, b) of the listed centres, none at a finder.
+#[tactic(auto, using(crate::proofs::Centres::centres_few, crate::proofs::Centres::centre_inside, crate::proofs::Centres::aligned_skip, crate::proofs::Centres::aligned_square))]
+fn alignment(out: &mut [u8], v: usize, a: usize, b: usize)
+    requires { (1 ≤ v) × ((v ≤ last_version) × ((a < length (centres v)) × ((b < length (centres v)) × (side_of v * side_of v ≤ length out.old)))) }
+    ensures { out.new ≡ aligned_one v (a * length (centres v) + b) out.old }
 {
-    let n = tables::centre_count(v);
-    let a = t / n;
-    let b = t % n;
-    if at_finder(n, a, b) {
+    if at_finder(tables::centre_count(v), a, b) {
         return;
     }
     let i = tables::centre(v, a);
@@ -222,14 +225,16 @@ fn alignment(out: &mut [u8], v: usize, t: usize)
 }
 
 // All alignment patterns.
-#[tactic(auto, using(crate::proofs::Centres::centres_few, crate::proofs::Centres::squared, crate::proofs::Centres::aligned_none, crate::proofs::Centres::aligned_more))]
+#[tactic(auto, using(crate::proofs::Centres::aligned_none, crate::proofs::Centres::aligned_more, crate::proofs::Centres::aligned_row, crate::proofs::Centres::aligned_rows))]
 fn alignments(out: &mut [u8], v: usize)
     requires { (1 ≤ v) × ((v ≤ last_version) × (side_of v * side_of v ≤ length out.old)) }
     ensures { out.new ≡ aligned v (length (centres v) * length (centres v)) out.old }
 {
     let n = tables::centre_count(v);
-    for t in 0..n * n {
-        alignment(out, v, t);
+    for a in 0..n {
+        for b in 0..n {
+            alignment(out, v, a, b);
+        }
     }
 }
 
@@ -296,6 +301,7 @@ fn tint_row(base: &[u8], out: &mut [u8], plain: u64, turned: u64, row: u64)
     requires { (length out.old ≡ length base.now) × ((length base.now ≤ 57) × AtMost 18 base.now) }
     ensures { out.new ≡ build (λ j. tinted plain turned row j (get_or base.now j 0)) (length base.now) }
 {
+    // `base` by its index: of a zipped loop the check does not know what was written
     for (j, colour) in out.iter_mut().enumerate() {
         *colour = tint(plain, turned, row, j, base[j]);
     }
@@ -364,6 +370,7 @@ pub fn pair_row(s: usize, q: usize, t: usize) -> usize
 }
 
 // The modules of column pair q, right before left in each row.
+#[tactic(auto, using(crate::proofs::Filling::put_none))]
 fn pair(codewords: &[u8], base: &mut [u8], v: usize, q: usize, n: usize) -> usize
     requires { (1 ≤ v) × ((v ≤ last_version) × ((q < 2 * v + 8) × ((n + 2 * side_of v ≤ 4000) × (side_of v * side_of v ≤ length base.old)))) }
     ensures { filling base.new result ≡ put_all (byte_bits codewords.now) (pair_place (side_of v) q) (2 * side_of v) (filling base.old n) }
@@ -379,23 +386,17 @@ fn pair(codewords: &[u8], base: &mut [u8], v: usize, q: usize, n: usize) -> usiz
     used
 }
 
-// The kinds of a version's modules, the data modules filled by the codewords, over a matrix of its length.
-fn fill(codewords: &[u8], base: &mut [u8], v: usize)
-    requires { (1 ≤ v) × ((v ≤ last_version) × (length base.old ≡ side_of v * side_of v)) }
-    ensures { base.new ≡ laid v codewords.now }
-{
-    patterns(base, v);
-    let mut used = 0;
-    for q in 0..2 * v + 8 {
-        used = pair(codewords, base, v, q, used);
-    }
-}
-
 // The kinds of a version's modules, the data modules filled by the codewords and the surplus by 0.
+#[tactic(auto, using(crate::proofs::Filling::none_yet))]
 pub fn lay(v: usize, codewords: &[u8], base: &mut [u8])
     requires { (1 ≤ v) × ((v ≤ last_version) × (side_of v * side_of v ≤ length base.old)) }
     ensures { base.new ≡ laid v codewords.now ++ drop (side_of v * side_of v) base.old }
 {
     let s = tables::side(v);
-    fill(codewords, &mut base[..s * s], v);
+    let matrix = &mut base[..s * s];
+    patterns(matrix, v);
+    let mut used = 0;
+    for q in 0..2 * v + 8 {
+        used = pair(codewords, matrix, v, q, used);
+    }
 }

@@ -1,18 +1,16 @@
 // The entries for the panel's firmware, as include/kqs.h says: numbers and slices in, a struct by value out. Each answers every input. `panel_c` exports them to C.
 #![tactic(auto)]
 
-ghost use Rattle.std.specs.Prelude.{◌≡◌, ◌<◌, ◌^◌, length};
+ghost use Rattle.std.specs.Prelude.{◌≡◌, length};
 ghost use Rattle.writer.specs.Writer.{request};
 ghost use Rattle.part.specs.Part.{span_of};
 ghost use Rattle.panel.specs.Panel.{WriteAnswers, ReadAnswers};
 
 use part::Span;
-use reader::Answered;
-use writer::Drawing;
 
 // What `kqs_write` answers: a refusal has zeros behind its number, and a symbol has 0 in front.
 #[repr(C)]
-#[derive(Clone, Copy)]
+#[derive(Clone, Copy, Default)]
 pub struct KqsDrawn {
     pub refusal: u32,
     pub version: u32,
@@ -22,7 +20,7 @@ pub struct KqsDrawn {
 
 // What `kqs_read` answers, in the same way.
 #[repr(C)]
-#[derive(Clone, Copy)]
+#[derive(Clone, Copy, Default)]
 pub struct KqsReading {
     pub refusal: u32,
     pub version: u32,
@@ -32,25 +30,6 @@ pub struct KqsReading {
     pub segments: u32,
     pub differing: u32,
     pub unreadable: u32,
-}
-
-fn wide(x: u32) -> usize
-    ensures { result ≡ x }
-{
-    x as usize
-}
-
-fn number(x: u8) -> u32
-    ensures { result ≡ x }
-{
-    x as u32
-}
-
-fn low(x: usize) -> u32
-    requires { x < 2 ^ 32 }
-    ensures { result ≡ x }
-{
-    x as u32
 }
 
 // Draws the symbol of a message into the first side · side bytes of `out`.
@@ -64,18 +43,24 @@ pub fn kqs_write(
 ) -> KqsDrawn
     ensures { WriteAnswers (request payload.now list.now level version mask) out.old result out.new }
 {
-    match writer::write(payload, list, wide(level), wide(version), wide(mask), out) {
-        Drawing::Refused(k) => KqsDrawn {
-            refusal: number(k),
-            version: 0,
-            mask: 0,
-            side: 0,
-        },
-        Drawing::Drawn(s) => KqsDrawn {
+    // the library has no `From` of `u32` into `usize`: each number keeps its value
+    match writer::write(
+        payload,
+        list,
+        level as usize,
+        version as usize,
+        mask as usize,
+        out,
+    ) {
+        Ok(s) => KqsDrawn {
             refusal: 0,
             version: s.version,
             mask: s.mask,
             side: s.side,
+        },
+        Err(refusal) => KqsDrawn {
+            refusal: u32::from(refusal.number()),
+            ..KqsDrawn::default()
         },
     }
 }
@@ -84,26 +69,21 @@ pub fn kqs_write(
 pub fn kqs_read(matrix: &[u8], payload: &mut [u8], list: &mut [u16]) -> KqsReading
     ensures { ReadAnswers matrix.now payload.old list.old result payload.new list.new }
 {
+    // a cast and no `try_from`, which could not fail: each number of a reading is one of 32 bits
     match reader::read(matrix, payload, list) {
-        Answered::Refused(k) => KqsReading {
-            refusal: number(k),
-            version: 0,
-            level: 0,
-            mask: 0,
-            payload: 0,
-            segments: 0,
-            differing: 0,
-            unreadable: 0,
-        },
-        Answered::Read(r) => KqsReading {
+        Ok(r) => KqsReading {
             refusal: 0,
-            version: low(r.version),
-            level: low(r.level),
-            mask: low(r.mask),
-            payload: low(r.payload),
-            segments: low(r.segments),
-            differing: low(r.differing),
-            unreadable: low(r.unreadable),
+            version: r.version as u32,
+            level: r.level as u32,
+            mask: r.mask as u32,
+            payload: r.payload as u32,
+            segments: r.segments as u32,
+            differing: r.differing as u32,
+            unreadable: r.unreadable as u32,
+        },
+        Err(refusal) => KqsReading {
+            refusal: u32::from(refusal.number()),
+            ..KqsReading::default()
         },
     }
 }

@@ -1,4 +1,4 @@
-// The entries of `panel`, exported to C as include/kqs.h says, each with the same promise.
+// The entries of `panel`, exported to C as include/kqs.h says, each with the same promise. They stand twice, since a crate is a library or a static library.
 #![tactic(auto)]
 
 ghost use Rattle.std.specs.Prelude.{◌≡◌, length};

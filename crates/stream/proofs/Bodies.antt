@@ -1,88 +1,91 @@
--- What a body's bits are from its i-th character on: a group more, or what the groups leave.
+-- What a body's bits are by its first group and the characters behind it, and that groups are what the paper says of digits and of pairs.
 use mathlib.Core.Path.{◌≡◌, refl, sym, ap, ◌∙◌}
-use mathlib.Core.List.{List, [], ◌∷◌, ◌++◌}
-use Prim.Native.Nat.{ℕ, suc, ◌+◌, ◌-◌, ◌*◌, ◌<◌, ◌≤◌}
+use mathlib.Core.Bool.{Bool, true, false, cond}
+use mathlib.Core.List.{List, [], ◌∷◌, ◌++◌, append-nil}
+use Prim.Native.Nat.{ℕ, suc, ◌+◌, ◌-◌, ◌*◌, ◌<◌, ◌≤◌, min}
 use native.Mathlib.Numerals.{add-one}
 use native.Mathlib.Omega.{arith}
-use lib.ListN.{length, get_or, take, drop, length-drop, drop_of_length-le}
-use lib.Seq.{drop-cons, take_all}
-use borrow.Author.Tests.{ne_eqb}
+use lib.Dec.{eqb}
+use lib.ListN.{length, get_or, drop, length-append, drop_of_length-le}
+use lib.Seq.{drop-cons}
+use borrow.Author.Tests.{ne_eqb, eqb-false}
+use Rattle.std.specs.List.{fold}
 use Rattle.basics.specs.Bits.{bits, byte_bits}
+use Rattle.stream.specs.Put.{RoomForBits, value, bits_behind, group_bits}
 use Rattle.stream.specs.Stream.{code_of, numeric_bits, alphanumeric_bits, body}
-use Rattle.stream.proofs.Pairs.{pair}
 
--- a part that runs to the end
-pub part_to_end : (l : List ℕ) (i : ℕ) → take (length l - i) (drop i l) ≡ drop i l
-part_to_end l i = take_all (length l - i) (drop i l) (rw length-drop (omega arith))
+module _ (base : ℕ) (widths : List ℕ) where
+  -- a group that is full, or behind which nothing is left
+  behind : (group rest : List ℕ) (n count : ℕ) → 0 < length group → count + length group ≤ length widths → (count + length group < length widths → length rest ≡ 0)
+      → bits_behind base widths n (group ++ rest) count
+      ≡ bits (get_or widths (count + length group - 1) 0) (fold (λ n c. base * n + code_of c) n group) ++ bits_behind base widths 0 rest 0
+  unfolding bits_behind
+  behind [] rest n count s l e = absurd (omega arith)
+  behind (c ∷ []) rest n count s l e = pick (eqb (suc count) (length widths)) refl
+    where
+      i : count + 1 - 1 ≡ count
+      i = omega arith
 
--- ---- what three digits at a time leave
+      last : (rest : List ℕ) → length rest ≡ 0
+          → bits_behind base widths (base * n + code_of c) rest (suc count) ≡ bits (get_or widths (count + 1 - 1) 0) (base * n + code_of c) ++ bits_behind base widths 0 rest 0
+      last [] h = rw i (sym (append-nil _))
+      last (d ∷ rest) h = absurd (omega arith)
 
-pub two_digits : (s : List ℕ) → length s ≡ 2 → numeric_bits s ≡ bits 7 (10 * code_of (get_or s 0 0) + code_of (get_or s 1 0))
-unfolding numeric_bits
-two_digits [] h = absurd (omega arith)
-two_digits (a ∷ []) h = absurd (omega arith)
-two_digits (a ∷ b ∷ []) h = refl
-two_digits (a ∷ b ∷ c ∷ s) h = absurd (omega arith)
+      pick : (t : Bool) → eqb (suc count) (length widths) ≡ t
+          → cond t (bits (get_or widths count 0) (base * n + code_of c) ++ bits_behind base widths 0 rest 0) (bits_behind base widths (base * n + code_of c) rest (suc count))
+          ≡ bits (get_or widths (count + 1 - 1) 0) (base * n + code_of c) ++ bits_behind base widths 0 rest 0
+      pick true h = rw i
+      pick false h = last rest (e (omega (arith, eqb-false (suc count) (length widths) h)))
+  behind (c ∷ d ∷ group) rest n count s l e =
+      let more : eqb (suc count) (length widths) ≡ false = ne_eqb (suc count) (length widths) (omega arith) in
+      let i : suc count + length (d ∷ group) - 1 ≡ count + length (c ∷ d ∷ group) - 1 = omega arith in
+      rw more (behind (d ∷ group) rest (base * n + code_of c) (suc count) (omega arith) (omega arith) (λ h. e (omega arith)) ∙ rw i)
 
-pub one_digit : (s : List ℕ) → length s ≡ 1 → numeric_bits s ≡ bits 4 (code_of (get_or s 0 0))
-unfolding numeric_bits
-one_digit [] h = absurd (omega arith)
-one_digit (a ∷ []) h = refl
-one_digit (a ∷ b ∷ s) h = absurd (omega arith)
+  pub group_more : (group rest : List ℕ) → 0 < length group → length group ≡ min (length widths) (length (group ++ rest))
+      → group_bits base widths (group ++ rest) ≡ bits (get_or widths (length group - 1) 0) (value base group) ++ group_bits base widths rest
+  group_more group rest s e =
+      let i : 0 + length group - 1 ≡ length group - 1 = omega arith in
+      behind group rest 0 0 s (omega arith) (λ h. omega (arith, length-append group rest)) ∙ rw i
 
-pub no_digit : (s : List ℕ) → length s < 3 → (length s ≡ 2 → ⊥) → (length s ≡ 1 → ⊥) → numeric_bits s ≡ []
-unfolding numeric_bits
-no_digit [] h n₁ n₂ = refl
-no_digit (a ∷ []) h n₁ n₂ = absurd (n₂ refl)
-no_digit (a ∷ b ∷ []) h n₁ n₂ = absurd (n₁ refl)
-no_digit (a ∷ b ∷ c ∷ s) h n₁ n₂ = absurd (omega arith)
+  pub group_none : (rest : List ℕ) → length rest ≡ 0 → group_bits base widths rest ≡ []
+  unfolding bits_behind
+  group_none [] e = refl
+  group_none (c ∷ rest) e = absurd (omega arith)
 
--- ---- a group more
+-- three digits in 10 bits, two left in 7, one left in 4
+pub numeric_groups : (chars : List ℕ) → group_bits 10 (4 ∷ 7 ∷ 10 ∷ []) chars ≡ numeric_bits chars
+unfolding numeric_bits bits_behind
+numeric_groups [] = refl
+numeric_groups (a ∷ []) = ap (bits 4) (omega arith)
+numeric_groups (a ∷ b ∷ []) = ap (bits 7) (omega arith)
+numeric_groups (a ∷ b ∷ c ∷ chars) =
+    let e : 10 * (10 * (10 * 0 + code_of a) + code_of b) + code_of c ≡ 100 * code_of a + 10 * code_of b + code_of c = omega arith in
+    rw (e, numeric_groups chars)
+
+-- a pair in 11 bits, one left in 6
+pub alphanumeric_groups : (chars : List ℕ) → group_bits 45 (6 ∷ 11 ∷ []) chars ≡ alphanumeric_bits chars
+unfolding alphanumeric_bits bits_behind
+alphanumeric_groups [] = refl
+alphanumeric_groups (a ∷ []) = ap (bits 6) (omega arith)
+alphanumeric_groups (a ∷ b ∷ chars) =
+    let e : 45 * (45 * 0 + code_of a) + code_of b ≡ 45 * code_of a + code_of b = omega arith in
+    rw (e, alphanumeric_groups chars)
+
+-- a body has room as the groups that it is
+module _ {out : List ℕ} {at mode : ℕ} (chars : List ℕ) (room : RoomForBits out at (body mode chars)) where
+  pub digits_room : mode ≡ 1 → RoomForBits out at (group_bits 10 (4 ∷ 7 ∷ 10 ∷ []) chars)
+  unfolding body
+  digits_room e = rw (numeric_groups chars) (rw e at room)
+
+  pub pairs_room : mode ≡ 2 → RoomForBits out at (group_bits 45 (6 ∷ 11 ∷ []) chars)
+  unfolding body
+  pairs_room e = rw (alphanumeric_groups chars) (rw e at room)
 
 module _ (l : List ℕ) (i : ℕ) where
-  pub numeric_more : i + 2 < length l
-      → numeric_bits (drop i l) ≡ bits 10 (100 * code_of (get_or l i 0) + 10 * code_of (get_or l (i + 1) 0) + code_of (get_or l (i + 2) 0)) ++ numeric_bits (drop (i + 3) l)
-  unfolding numeric_bits
-  numeric_more h =
-      let e : suc (i + 2) ≡ i + 3 = omega arith in
-      ap numeric_bits (pair l i (omega arith) ∙ ap (λ (r : List ℕ). get_or l i 0 ∷ get_or l (i + 1) 0 ∷ r) (drop-cons l (i + 2) 0 h))
-      ∙ ap (λ (n : ℕ). bits 10 (100 * code_of (get_or l i 0) + 10 * code_of (get_or l (i + 1) 0) + code_of (get_or l (i + 2) 0)) ++ numeric_bits (drop n l)) e
-
-  pub alphanumeric_more : i + 1 < length l
-      → alphanumeric_bits (drop i l) ≡ bits 11 (45 * code_of (get_or l i 0) + code_of (get_or l (i + 1) 0)) ++ alphanumeric_bits (drop (i + 2) l)
-  unfolding alphanumeric_bits
-  alphanumeric_more h = ap alphanumeric_bits (pair l i h)
-
-  last_one : i < length l → length l ≤ i + 1 → drop i l ≡ get_or l i 0 ∷ []
-  last_one h k = drop-cons l i 0 h ∙ ap (λ (r : List ℕ). get_or l i 0 ∷ r) (drop_of_length-le l {i = suc i} (omega arith))
-
-  pub alphanumeric_one : i < length l → length l ≤ i + 1 → alphanumeric_bits (drop i l) ≡ bits 6 (code_of (get_or l i 0))
-  unfolding alphanumeric_bits
-  alphanumeric_one h k = ap alphanumeric_bits (last_one h k)
-
-  pub alphanumeric_none : length l ≤ i → alphanumeric_bits (drop i l) ≡ []
-  unfolding alphanumeric_bits
-  alphanumeric_none h = ap alphanumeric_bits (drop_of_length-le l h)
-
-  pub bytes_more : i < length l → byte_bits (drop i l) ≡ bits 8 (get_or l i 0) ++ byte_bits (drop (i + 1) l)
+  pub bytes_more : (x : ℕ) → i < length l → x ≡ get_or l i 0 → byte_bits (drop i l) ≡ bits 8 x ++ byte_bits (drop (i + 1) l)
   unfolding byte_bits
-  bytes_more h = ap byte_bits (drop-cons l i 0 h ∙ ap (λ (n : ℕ). get_or l i 0 ∷ drop n l) (sym (add-one i)))
+  bytes_more x h e = rw (e, add-one) (ap byte_bits (drop-cons l i 0 h))
 
   pub bytes_none : length l ≤ i → byte_bits (drop i l) ≡ []
   unfolding byte_bits
   bytes_none h = ap byte_bits (drop_of_length-le l h)
-
--- ---- a body in its mode
-
-module _ (mode : ℕ) (chars : List ℕ) where
-  pub body_numeric : mode ≡ 1 → body mode chars ≡ numeric_bits chars
-  unfolding body
-  body_numeric e = rw e
-
-  pub body_alphanumeric : mode ≡ 2 → body mode chars ≡ alphanumeric_bits chars
-  unfolding body
-  body_alphanumeric e = rw e
-
-  pub body_bytes : (mode ≡ 1 → ⊥) → (mode ≡ 2 → ⊥) → body mode chars ≡ byte_bits chars
-  unfolding body
-  body_bytes h k = simp (ne_eqb _ _ h, ne_eqb _ _ k)

@@ -29,9 +29,6 @@ code_le c = place_le alphabet c
 shifted : (f : ℕ → ℕ) (a c : ℕ) → a ≤ c → f (a + (c - a)) ≡ f c
 shifted f a c h = ap f (omega arith)
 
-pub a_digit : (c : ℕ) → 45 ≤ c → (c ≡ 45 → ⊥) → (c ≡ 46 → ⊥) → (c ≡ 47 → ⊥) → 48 ≤ c
-a_digit c h n₁ n₂ n₃ = omega arith
-
 pub digit_code : (c : ℕ) → 48 ≤ c → c < 58 → code_of c ≡ c - 48
 unfolding code_of place_in alphabet
 digit_code c h l = sym (shifted code_of 48 c h) ∙ same_1 10 (λ k. code_of (48 + k)) (λ k. k) tt (c - 48) (omega arith)
@@ -64,3 +61,5 @@ middle_code c h l n =
 pub high_code : (c : ℕ) → 91 ≤ c → c < 256 → code_of c ≡ 45
 unfolding code_of place_in alphabet
 high_code c h l = sym (shifted code_of 91 c h) ∙ same_1 165 (λ k. code_of (91 + k)) (λ k. 45) tt (c - 91) (omega arith)
+
+pub ruleset codes = (digit_code, letter_code, low_code, middle_code, high_code)

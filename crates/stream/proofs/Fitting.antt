@@ -6,7 +6,9 @@ use Prim.Native.Nat.{ℕ, ◌*◌, ◌≤◌, ◌<◌}
 use lib.Dec.{leb}
 use borrow.Author.Tests.{leb-true, le-leb, lt-leb}
 use Rattle.tables.specs.Tables.{last_version, data_count}
+use Rattle.tables.proofs.Rules.{data_most}
 use Rattle.stream.specs.Stream.{segments_width, fits}
+use Rattle.stream.proofs.Pairs.{width_more, width_none}
 
 last : (a b c : Bool) → (a && b && c) ≡ true → c ≡ true
 last true true c e = e
@@ -43,3 +45,5 @@ module _ (v level : ℕ) (list : List ℕ) where
       not_mid : (a c : Bool) → (a && false && c) ≡ false
       not_mid true c = cc
       not_mid false c = cc
+
+pub ruleset fitting = (width_more, width_none, width_fits, width_past, data_most)

@@ -3,159 +3,117 @@
 
 ghost use Rattle.std.specs.Prelude.{◌≡◌, true, [], ◌∷◌, ◌++◌, ◌+◌, ◌-◌, ◌*◌, ◌/◌, ◌%◌, ◌≤◌, ◌<◌, min, eqb, length, get_or, take, replicate};
 ghost use Rattle.basics.specs.Bits.{byte_bits};
-ghost use Rattle.basics.specs.Lists.{each};
+ghost use Rattle.std.specs.List.{list_all};
 ghost use Rattle.tables.specs.Tables.{Lawful, data_count, count_width};
-ghost use Rattle.stream.specs.Put.{RoomForBits, Put, segment_bits};
+ghost use Rattle.stream.specs.Put.{RoomForBits, Put, segment_bits, value, Grouping, group_bits};
 ghost use Rattle.stream.specs.Stream.{code_of, known as is_known, in_mode, lawful_list, counts, lawful_characters, body_width, fits as does_fit, numeric_bits, alphanumeric_bits, body, segments, pads, data_codewords, LawfulMessage};
 
 use cursor::Cursor;
 
-fn wide(x: u16) -> usize
-    ensures { result ≡ x }
-{
-    x as usize
-}
-
 // A character's code, 45 for one that has none.
+#[tactic(auto, using(crate::proofs::Characters::codes), unfolding(crate::specs::Stream::code_of, crate::specs::Stream::alphabet, basics::specs::Lists::place_in))]
 pub fn code_of(c: u8) -> u32
     ensures { result ≡ code_of c }
 {
     match c {
-        48..=57 => wide8(c) - 48,
-        65..=90 => wide8(c) - 55,
-        32 => 36,
-        36 => 37,
-        37 => 38,
-        42 => 39,
-        43 => 40,
-        45 => 41,
-        46 => 42,
-        47 => 43,
-        58 => 44,
+        b'0'..=b'9' => u32::from(c - b'0'),
+        b'A'..=b'Z' => u32::from(c - b'A') + 10,
+        b' ' => 36,
+        b'$' => 37,
+        b'%' => 38,
+        b'*' => 39,
+        b'+' => 40,
+        b'-' => 41,
+        b'.' => 42,
+        b'/' => 43,
+        b':' => 44,
         _ => 45,
     }
 }
 
-fn wide8(x: u8) -> u32
-    ensures { result ≡ x }
-{
-    x as u32
-}
-
 // A character of its segment's mode.
+#[tactic(auto, unfolding(crate::specs::Stream::in_mode))]
 pub fn in_mode(mode: usize, c: u8) -> bool
     ensures { result ≡ in_mode mode c }
 {
-    if mode == 1 {
-        return code_of(c) < 10;
+    match mode {
+        1 => code_of(c) < 10,
+        2 => code_of(c) < 45,
+        _ => true,
     }
-    if mode == 2 {
-        return code_of(c) < 45;
-    }
-    true
 }
 
-// A mode that the paper has.
+// A mode that the paper has. A mode stays a number, as a list has it: other numbers stand in lists too, and are refused.
+#[tactic(auto, unfolding(crate::specs::Stream::known))]
 pub fn known(mode: usize) -> bool
     ensures { result ≡ is_known mode }
 {
-    if mode == 1 {
-        return true;
-    }
-    if mode == 2 {
-        return true;
-    }
-    mode == 4
+    matches!(mode, 1 | 2 | 4)
 }
 
 // No odd length, and every mode known.
 pub fn lawful_list(list: &[u16]) -> bool
     ensures { result ≡ lawful_list list.now }
 {
-    let mut i: usize = 0;
-    while i < list.len() {
-        if list.len() - i < 2 {
-            return false;
-        }
-        if !known(wide(list[i])) {
-            return false;
-        }
-        i += 2;
-    }
-    true
+    let mut pairs = list.chunks_exact(2);
+    pairs.remainder().is_empty() && pairs.all(|pair| known(usize::from(pair[0])))
 }
 
 // The counts sum to the length of the payload: the sum is exact, for it stops before it passes the length.
+#[tactic(auto, using(crate::proofs::Pairs::counting))]
 pub fn counts_match(list: &[u16], len: usize) -> bool
     ensures { result ≡ eqb (counts list.now) len }
 {
-    let mut sum: usize = 0;
-    let mut i: usize = 0;
-    while i + 1 < list.len() {
-        let count = wide(list[i + 1]);
+    let mut sum = 0;
+    for pair in list.chunks_exact(2) {
+        let count = usize::from(pair[1]);
         if len - sum < count {
             return false;
         }
         sum += count;
-        i += 2;
     }
     sum == len
 }
 
 // Every character is in the mode.
 fn all_in_mode(mode: usize, chars: &[u8]) -> bool
-    ensures { result ≡ each (in_mode mode) chars.now }
+    ensures { result ≡ list_all (in_mode mode) chars.now }
 {
-    let mut i: usize = 0;
-    while i < chars.len() {
-        if !in_mode(mode, chars[i]) {
-            return false;
-        }
-        i += 1;
-    }
-    true
+    chars.iter().all(|c| in_mode(mode, *c))
 }
 
 // Every character is in its segment's mode.
+#[tactic(auto, using(crate::proofs::Pairs::characters))]
 pub fn lawful_characters(list: &[u16], payload: &[u8]) -> bool
     requires { counts list.now ≡ length payload.now }
     ensures { result ≡ lawful_characters list.now payload.now }
 {
-    let mut at: usize = 0;
-    let mut i: usize = 0;
-    while i + 1 < list.len() {
-        let end = at + wide(list[i + 1]);
-        if !all_in_mode(wide(list[i]), &payload[at..end]) {
+    let mut left = payload;
+    for pair in list.chunks_exact(2) {
+        let (chars, rest) = left.split_at(usize::from(pair[1]));
+        if !all_in_mode(usize::from(pair[0]), chars) {
             return false;
         }
-        at = end;
-        i += 2;
+        left = rest;
     }
     true
 }
 
 // The number of bits in a body of so many characters.
+#[tactic(auto, unfolding(crate::specs::Stream::body_width))]
 pub fn body_width(mode: usize, count: usize) -> usize
     requires { count < 65536 }
     ensures { result ≡ body_width mode count }
 {
-    if mode == 1 {
-        let left = count % 3;
-        if left == 0 {
-            return count / 3 * 10;
-        }
-        if left == 1 {
-            return count / 3 * 10 + 4;
-        }
-        return count / 3 * 10 + 7;
+    match mode {
+        1 => count / 3 * 10 + [0, 4, 7][count % 3],
+        2 => count / 2 * 11 + count % 2 * 6,
+        _ => 8 * count,
     }
-    if mode == 2 {
-        return count / 2 * 11 + count % 2 * 6;
-    }
-    8 * count
 }
 
 // The number of bits in a segment: mode, count and body.
+#[tactic(auto, using(crate::proofs::Widths::count_width_le, crate::proofs::Widths::body_width_le))]
 fn segment_width(v: usize, mode: usize, count: usize) -> usize
     requires { count < 65536 }
     ensures { result ≡ 4 + count_width v mode + body_width mode count }
@@ -164,156 +122,103 @@ fn segment_width(v: usize, mode: usize, count: usize) -> usize
 }
 
 // The message needs no more data bits than the version has at the level. The sum stops before it passes them.
+#[tactic(auto, using(crate::proofs::Fitting::fitting))]
 pub fn fits(v: usize, level: usize, list: &[u16]) -> bool
     requires { Lawful v level }
     ensures { result ≡ does_fit v level list.now }
 {
     let most = 8 * tables::data(v, level);
-    let mut sum: usize = 0;
-    let mut i: usize = 0;
-    while i + 1 < list.len() {
-        let width = segment_width(v, wide(list[i]), wide(list[i + 1]));
+    let mut sum = 0;
+    for pair in list.chunks_exact(2) {
+        let width = segment_width(v, usize::from(pair[0]), usize::from(pair[1]));
         if most - sum < width {
             return false;
         }
         sum += width;
-        i += 2;
     }
     true
 }
 
-fn narrow(x: usize) -> u32
-    requires { x < 65536 }
-    ensures { result ≡ x }
+// The characters of a group as one number, in a base of 10 or 45.
+#[tactic(auto, using(crate::proofs::Characters::code_le))]
+fn value_of(base: u32, group: &[u8]) -> u32
+    requires { (base ≤ 45) × (length group.now ≤ 3) }
+    ensures { result ≡ value base group.now }
 {
-    x as u32
-}
-
-// Three digits from the i-th on as one number.
-fn three_digits(chars: &[u8], i: usize) -> u32
-    requires { i + 2 < length chars.now }
-    ensures { result ≡ 100 * code_of (get_or chars.now i 0) + 10 * code_of (get_or chars.now (i + 1) 0) + code_of (get_or chars.now (i + 2) 0) }
-{
-    100 * code_of(chars[i]) + 10 * code_of(chars[i + 1]) + code_of(chars[i + 2])
-}
-
-// Two characters from the i-th on as one number, in a base of 10 or 45.
-fn pair_of(base: u32, chars: &[u8], i: usize) -> u32
-    requires { (base ≤ 45) × (i + 1 < length chars.now) }
-    ensures { result ≡ base * code_of (get_or chars.now i 0) + code_of (get_or chars.now (i + 1) 0) }
-{
-    base * code_of(chars[i]) + code_of(chars[i + 1])
-}
-
-// Two digits or none or one: what three at a time leave, two in 7 bits and one in 4.
-fn put_last_digits(cursor: Cursor, chars: &[u8], out: &mut [u8]) -> Cursor
-    requires { (length chars.now < 3) × RoomForBits out.old cursor.at (numeric_bits chars.now) }
-    ensures { Put out.old cursor.at (numeric_bits chars.now) out.new result.at }
-{
-    if chars.len() == 2 {
-        return cursor.put(out, pair_of(10, chars, 0), 7);
+    match group {
+        [a] => code_of(*a),
+        [a, b] => base * code_of(*a) + code_of(*b),
+        [a, b, c] => base * (base * code_of(*a) + code_of(*b)) + code_of(*c),
+        _ => 0,
     }
-    if chars.len() == 1 {
-        return cursor.put(out, code_of(chars[0]), 4);
+}
+
+// A body of groups: each has as many characters as there are widths, only the last may have fewer. A group of n characters takes the n-th width.
+fn put_groups(
+    mut cursor: Cursor,
+    base: u32,
+    widths: &[usize],
+    chars: &[u8],
+    out: &mut [u8],
+) -> Cursor
+    requires { Grouping base widths.now × RoomForBits out.old cursor.at (group_bits base widths.now chars.now) }
+    ensures { Put out.old cursor.at (group_bits base widths.now chars.now) out.new result.at }
+{
+    for group in chars.chunks(widths.len()) {
+        cursor = cursor.put(out, value_of(base, group), widths[group.len() - 1]);
     }
     cursor
 }
 
-// A numeric body: three digits in 10 bits each time.
-fn put_numeric(cursor: Cursor, chars: &[u8], out: &mut [u8]) -> Cursor
-    requires { RoomForBits out.old cursor.at (numeric_bits chars.now) }
-    ensures { Put out.old cursor.at (numeric_bits chars.now) out.new result.at }
-{
-    let mut c = cursor;
-    let mut i: usize = 0;
-    while i + 2 < chars.len() {
-        c = c.put(out, three_digits(chars, i), 10);
-        i += 3;
-    }
-    put_last_digits(c, &chars[i..], out)
-}
-
-// An alphanumeric body: a pair in 11 bits each time, one left in 6.
-fn put_alphanumeric(cursor: Cursor, chars: &[u8], out: &mut [u8]) -> Cursor
-    requires { RoomForBits out.old cursor.at (alphanumeric_bits chars.now) }
-    ensures { Put out.old cursor.at (alphanumeric_bits chars.now) out.new result.at }
-{
-    let mut c = cursor;
-    let mut i: usize = 0;
-    while i + 1 < chars.len() {
-        c = c.put(out, pair_of(45, chars, i), 11);
-        i += 2;
-    }
-    if i < chars.len() {
-        return c.put(out, code_of(chars[i]), 6);
-    }
-    c
-}
-
 // A byte body.
-fn put_bytes(cursor: Cursor, chars: &[u8], out: &mut [u8]) -> Cursor
+fn put_bytes(mut cursor: Cursor, chars: &[u8], out: &mut [u8]) -> Cursor
     requires { RoomForBits out.old cursor.at (byte_bits chars.now) }
     ensures { Put out.old cursor.at (byte_bits chars.now) out.new result.at }
 {
-    let mut c = cursor;
-    let mut i: usize = 0;
-    while i < chars.len() {
-        c = c.put(out, wide8(chars[i]), 8);
-        i += 1;
+    for c in chars {
+        cursor = cursor.put(out, u32::from(*c), 8);
     }
-    c
+    cursor
 }
 
-// A body in its mode.
+// A body in its mode: three digits in 10 bits, two left in 7, one left in 4; a pair in 11 bits, one left in 6; or bytes.
+#[tactic(auto, using(crate::proofs::Bodies::numeric_groups, crate::proofs::Bodies::alphanumeric_groups), unfolding(crate::specs::Stream::body))]
 fn put_body(cursor: Cursor, mode: usize, chars: &[u8], out: &mut [u8]) -> Cursor
     requires { RoomForBits out.old cursor.at (body mode chars.now) }
     ensures { Put out.old cursor.at (body mode chars.now) out.new result.at }
 {
-    if mode == 1 {
-        return put_numeric(cursor, chars, out);
+    match mode {
+        1 => put_groups(cursor, 10, &[4, 7, 10], chars, out),
+        2 => put_groups(cursor, 45, &[6, 11], chars, out),
+        _ => put_bytes(cursor, chars, out),
     }
-    if mode == 2 {
-        return put_alphanumeric(cursor, chars, out);
-    }
-    put_bytes(cursor, chars, out)
 }
 
 // A segment: 4-bit mode, count, body.
-fn put_segment(cursor: Cursor, v: usize, mode: usize, chars: &[u8], out: &mut [u8]) -> Cursor
-    requires { (mode < 65536) × ((length chars.now < 65536) × RoomForBits out.old cursor.at (segment_bits v mode chars.now)) }
+fn put_segment(cursor: Cursor, v: usize, mode: u16, chars: &[u8], out: &mut [u8]) -> Cursor
+    requires { (length chars.now < 65536) × RoomForBits out.old cursor.at (segment_bits v mode chars.now) }
     ensures { Put out.old cursor.at (segment_bits v mode chars.now) out.new result.at }
 {
-    let start = cursor.put(out, narrow(mode), 4);
-    let counted = start.put(out, narrow(chars.len()), tables::count_width(v, mode));
+    let start = cursor.put(out, u32::from(mode), 4);
+    let mode = usize::from(mode);
+    let counted = start.put(out, chars.len() as u32, tables::count_width(v, mode));
     put_body(counted, mode, chars, out)
 }
 
 // All segments, from the first bit on.
+#[tactic(auto, using(crate::proofs::Pairs::counting))]
 fn put_segments(payload: &[u8], list: &[u16], v: usize, out: &mut [u8]) -> Cursor
     requires { (counts list.now ≡ length payload.now) × RoomForBits out.old 0 (segments v list.now payload.now) }
     ensures { Put out.old 0 (segments v list.now payload.now) out.new result.at }
 {
-    let mut c = Cursor { at: 0 };
-    let mut p: usize = 0;
-    let mut i: usize = 0;
-    while i + 1 < list.len() {
-        let end = p + wide(list[i + 1]);
-        c = put_segment(c, v, wide(list[i]), &payload[p..end], out);
-        p = end;
-        i += 2;
+    let mut cursor = Cursor { at: 0 };
+    let mut left = payload;
+    for pair in list.chunks_exact(2) {
+        let (chars, rest) = left.split_at(usize::from(pair[1]));
+        cursor = put_segment(cursor, v, pair[0], chars, out);
+        left = rest;
     }
-    c
-}
-
-// A cleared buffer.
-fn clear(out: &mut [u8])
-    ensures { out.new ≡ replicate (length out.old) 0 }
-{
-    let mut i: usize = 0;
-    while i < out.len() {
-        out[i] = 0;
-        i += 1;
-    }
+    cursor
 }
 
 // How many bytes the segments take with up to four zero bits as fit and zeros to a whole byte.
@@ -321,11 +226,7 @@ fn front_count(most: usize, used: usize) -> usize
     requires { (most ≤ 4096) × (used ≤ 8 * most) }
     ensures { result ≡ (used + min 4 (8 * most - used) + 7) / 8 }
 {
-    let left = 8 * most - used;
-    if left < 4 {
-        return (used + left + 7) / 8;
-    }
-    (used + 4 + 7) / 8
+    (used + (8 * most - used).min(4)).div_ceil(8)
 }
 
 // 236 and 17 in turn.
@@ -340,11 +241,8 @@ fn put_pads(out: &mut [u8], front: usize)
     requires { front ≤ length out.old }
     ensures { out.new ≡ take front out.old ++ pads (length out.old - front) }
 {
-    let n = out.len() - front;
-    let mut k: usize = 0;
-    while k < n {
-        out[front + k] = pad_byte(k);
-        k += 1;
+    for (k, byte) in out[front..].iter_mut().enumerate() {
+        *byte = pad_byte(k);
     }
 }
 
@@ -353,8 +251,8 @@ pub fn encode(payload: &[u8], list: &[u16], v: usize, level: usize, out: &mut [u
     requires { Lawful v level × (LawfulMessage v level payload.now list.now × (length out.old ≡ data_count v level)) }
     ensures { out.new ≡ data_codewords v level list.now payload.now }
 {
-    clear(out);
-    let c = put_segments(payload, list, v, out);
-    let front = front_count(out.len(), c.at);
+    out.fill(0);
+    let used = put_segments(payload, list, v, out).at;
+    let front = front_count(out.len(), used);
     put_pads(out, front);
 }

@@ -1,15 +1,16 @@
 -- Texts pasted one after the other are pasted as one text, and a buffer keeps its length.
---     stored, then      one byte; a text and the text behind it
+--     stored, copied, then    one byte; bytes copied into a part; a text and the text behind it
 --     room_first, room_next   where there is room for both there is room for the first, and then for the second
 --     Progress          a loop on its way through a text: what is written, and what is left
 --     printed           from place 0 on: the text, and behind it the buffer as it was
 use mathlib.Core.Path.{◌≡◌, refl, sym, ap, subst, ◌∙◌}
 use mathlib.Core.List.{List, [], ◌∷◌, ◌++◌, append_assoc, append-nil}
-use Prim.Native.Nat.{ℕ, suc, ◌+◌, ◌≤◌}
-use native.Mathlib.Nat.{add-zero, add-suc, suc-add, zero-add}
+use Prim.Native.Nat.{ℕ, suc, ◌+◌, ◌-◌, ◌≤◌}
+use native.Mathlib.Nat.{add-zero, add-suc, suc-add, zero-add, add-sub_cancel_left}
+use borrow.Rule.Slice.PartMut.{put_mid}
 use native.Mathlib.Omega.{arith}
 use lib.ListN.{length, drop, set, length-append, length-set}
-use lib.Seq.{sets, sets-eq}
+use lib.Seq.{sets, sets-eq, drop-drop}
 use Rattle.basics.specs.Lists.{joined}
 use Rattle.text.specs.Paste.{pasted, RoomForBytes, Pasted, Printed}
 
@@ -43,6 +44,11 @@ nothing out at = record { behind = sym (add-zero at); holds = refl }
 pub stored : (out : List ℕ) (at b : ℕ) → Pasted out at (b ∷ []) (at + 1) (set out at b)
 unfolding pasted
 stored out at b = record { behind = refl; holds = refl }
+
+-- bytes copied into a lent part
+pub copied : (out : List ℕ) (at : ℕ) (s part : List ℕ) → RoomForBytes out at s → part ≡ s → Pasted out at s (at + length s) (put_mid at (at + length s - at) out part)
+copied out at s part h e =
+    record { behind = refl; holds = rw (e, add-sub_cancel_left, drop-drop, ← append_assoc) (sym (pasted_sets at s out ∙ sets-eq s out at h.fits)) }
 
 pub then : {out o₁ o₂ s t : List ℕ} {at n m : ℕ} → Pasted out at s n o₁ → Pasted o₁ n t m o₂ → Pasted out at (s ++ t) m o₂
 then {out} {o₁} {o₂} {s} {t} {at} {n} p q =

@@ -1,4 +1,5 @@
 // The text that is printed, in a lent buffer. Each function writes its text from a place on and answers the next free place.
+// By hand and not by `write!` and `Display`, whose clauses give the text only where they answer `Ok` and never say that they do: these cannot fail.
 #![tactic(auto)]
 
 ghost use Rattle.std.specs.Prelude.{◌≡◌, [], ◌∷◌, ◌++◌, ◌≤◌, ◌<◌, length};
@@ -24,12 +25,8 @@ fn put_bytes(out: &mut [u8], at: usize, s: &[u8]) -> usize
     requires { RoomForBytes out.old at s.now }
     ensures { Pasted out.old at s.now result out.new }
 {
-    let mut next = at;
-    let mut k: usize = 0;
-    while k < s.len() {
-        next = put_byte(out, next, s[k]);
-        k += 1;
-    }
+    let next = at + s.len();
+    out[at..next].copy_from_slice(s);
     next
 }
 
@@ -41,7 +38,7 @@ fn put_digits(out: &mut [u8], at: usize, n: usize, x: usize) -> usize
     if n == 0 {
         return at;
     }
-    let digit = (48 + x % 10) as u8;
+    let digit = b'0' + (x % 10) as u8;
     if x < 10 {
         return put_byte(out, at, digit);
     }
@@ -63,10 +60,7 @@ fn hex_digit(x: u8) -> u8
     requires { x < 16 }
     ensures { result ≡ hex_digit x }
 {
-    if x < 10 {
-        return 48 + x;
-    }
-    87 + x
+    if x < 10 { b'0' + x } else { b'a' - 10 + x }
 }
 
 // The bytes in hex.
@@ -75,12 +69,9 @@ fn put_hex(out: &mut [u8], at: usize, bytes: &[u8]) -> usize
     ensures { Pasted out.old at (hex bytes.now) result out.new }
 {
     let mut next = at;
-    let mut k: usize = 0;
-    while k < bytes.len() {
-        let b = bytes[k];
-        let half = put_byte(out, next, hex_digit(b / 16));
-        next = put_byte(out, half, hex_digit(b % 16));
-        k += 1;
+    for byte in bytes {
+        let half = put_byte(out, next, hex_digit(*byte / 16));
+        next = put_byte(out, half, hex_digit(*byte % 16));
     }
     next
 }
@@ -145,24 +136,16 @@ fn put_segment(
     put_byte(out, hexed, LINE_FEED)
 }
 
-fn wide(x: u16) -> usize
-    ensures { result ≡ x }
-{
-    x as usize
-}
-
 // The lines of all segments: of each its line and its part of the payload.
 fn put_segments(out: &mut [u8], at: usize, payload: &[u8], list: &[u16]) -> usize
     requires { Fills list.now (length payload.now) × RoomForBytes out.old at (segment_lines 1 payload.now list.now) }
     ensures { Pasted out.old at (segment_lines 1 payload.now list.now) result out.new }
 {
     let mut next = at;
-    let mut k: usize = 0;
-    while k < list.len() / 2 {
-        let mode = wide(list[2 * k]);
-        let count = wide(list[2 * k + 1]);
+    for k in 0..list.len() / 2 {
+        let mode = usize::from(list[2 * k]);
+        let count = usize::from(list[2 * k + 1]);
         next = put_segment(out, next, k + 1, mode, count, part::part(payload, list, k));
-        k += 1;
     }
     next
 }

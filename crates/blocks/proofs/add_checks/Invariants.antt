@@ -1,16 +1,14 @@
 -- `blocks::add_checks` meets its contract. The invariant: the data stands in front, and behind it the checks of the first b blocks.
-use mathlib.Core.Path.{◌≡◌}
-use mathlib.Core.List.{◌++◌}
-use Prim.Native.Nat.{◌+◌, ◌*◌, ◌-◌, ◌≤◌}
-use lib.ListN.{take, drop}
+use Rattle.std.proofs.Common.{◌≡◌, ℕ, List, ◌++◌, ◌+◌, ◌*◌, length, take, drop}
 use Rattle.tables.specs.Tables.{check_count, data_count, block_start}
 use Rattle.blocks.proofs.Behind.{front}
 use Rattle.blocks.proofs.add_checks.Given as goal
 
-abbrev pub invariant-loop-b : goal.invariant-loop-b
-invariant-loop-b l = (l.b ≤ l.blocks)
-    × ((l.a ≡ block_start l.v l.level l.b) × ((l.c ≡ data_count l.v l.level + l.b * check_count l.v l.level)
-    × (l.words ≡ front l.v l.level (take (data_count l.v l.level) l.initial.words) l.b ++ drop l.c l.initial.words)))
+pub record Added (v level b a c : ℕ) (words₀ words : List ℕ) : Type 0 where
+  pub held : a ≡ block_start v level b
+  pub made : c ≡ data_count v level + b * check_count v level
+  pub long : length words ≡ length words₀
+  pub done : words ≡ front v level (take (data_count v level) words₀) b ++ drop c words₀
 
-abbrev pub decreases-loop-b : goal.decreases-loop-b
-decreases-loop-b l = l.blocks - l.b
+abbrev pub invariant-loop-b : goal.invariant-loop-b
+invariant-loop-b l = Added l.v l.level l.b l.a l.c l.initial.words l.words

@@ -1,9 +1,8 @@
 -- `blocks::deal` meets its contract. The invariant: the first k codewords are at their places.
 use mathlib.Core.Path.{◌≡◌, refl}
 use Prim.Native.Nat.{ℕ, ◌<◌, ◌+◌, ◌≤◌}
-use native.Mathlib.Nat.{le_antisymm}
 use native.Mathlib.Omega.{arith}
-use lib.ListN.{length, length-set}
+use lib.ListN.{length}
 use Rattle.basics.specs.Walk.{walked}
 use Rattle.tables.specs.Tables.{block_count, block_length, Lawful}
 use Rattle.blocks.specs.declared.Sizes.{Sizes}
@@ -15,7 +14,7 @@ use Rattle.blocks.proofs.deal.Goals as goal
 
 pub loop-k-init : goal.loop-k-init
 unfolding walked
-loop-k-init c = (omega arith, (refl, refl))
+loop-k-init c = refl
 
 -- the codeword of this turn is one of the block
 turn : (s : Sizes) (v level b first k n : ℕ) → Lawful v level × ((b < block_count v level) × (first + n ≤ block_length v level b)) → s ≡ sizes_of v level → k < n → Turn s v level b (first + k)
@@ -25,29 +24,24 @@ pub overflow_add-first : goal.overflow_add-first
 overflow_add-first c = let t = turn c.sizes_of-s.result c.args.v c.args.level c.args.b c.args.first c.loop-k.k (length c.args.part.now) c.requires.lawful c.sizes_of-s.ensures (omega arith) in
     omega (arith, t.asked)
 
-pub place-q-requires : goal.place-q-requires
-place-q-requires c = (turn _ _ _ _ _ _ _ c.requires.lawful c.sizes_of-s.ensures (omega arith)).asked
+pub place-requires : goal.place-requires
+place-requires c = (turn _ _ _ _ _ _ _ c.requires.lawful c.sizes_of-s.ensures (omega arith)).asked
 
-pub bounds-out-q : goal.bounds-out-q
-bounds-out-q c =
+pub bounds-out-place : goal.bounds-out-place
+bounds-out-place c =
     let t = turn c.sizes_of-s.result c.args.v c.args.level c.args.b c.args.first c.loop-k.k (length c.args.part.now) c.requires.lawful c.sizes_of-s.ensures (omega arith) in
-    omega (arith, t.given c.place-q.result c.place-q.ensures)
+    omega (arith, t.given c.place.result c.place.ensures)
 
 pub loop-k-preserved : goal.loop-k-preserved
 loop-k-preserved c =
     let l = c.loop-k in
     let a = c.args in
-    let t = turn c.sizes_of-s.result a.v a.level a.b a.first l.k (length a.part.now) c.requires.lawful c.sizes_of-s.ensures (omega arith) in (
-      omega arith,
-      (
-        simp length-set l.invariant.1.0,
-        deal_more (λ k. sent_place a.v a.level a.b (a.first + k)) a.part.now l.out a.out.now l.k c.place-q.result
-            (t.given c.place-q.result c.place-q.ensures).0 l.invariant.1.1,
-      ),
-    )
+    let t = turn c.sizes_of-s.result a.v a.level a.b a.first l.k (length a.part.now) c.requires.lawful c.sizes_of-s.ensures (omega arith) in
+    deal_more (λ k. sent_place a.v a.level a.b (a.first + k)) a.part.now l.out a.out.now l.k c.place.result
+    (t.given c.place.result c.place.ensures).0 l.invariant
 
 pub returns : goal.returns
 returns c =
     let l = c.loop-k in
     let a = c.args in
-    deal_all (λ k. sent_place a.v a.level a.b (a.first + k)) a.part.now l.out a.out.now l.k l.invariant.1.1 (le_antisymm l.invariant.0 c.loop-k-test.false)
+    deal_all (λ k. sent_place a.v a.level a.b (a.first + k)) a.part.now l.out a.out.now l.k l.invariant (omega arith)

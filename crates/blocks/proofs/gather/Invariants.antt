@@ -1,14 +1,12 @@
--- `blocks::gather` meets its contract. The invariant: the first b blocks are gathered, one after the other, and the rest is as it was.
-use mathlib.Core.Path.{◌≡◌}
-use Prim.Native.Nat.{◌-◌, ◌≤◌}
-use lib.ListN.{length, get_or}
+-- `blocks::gather` meets its contract. The invariant: the first blocks are gathered, one after the other, and the rest is as it was.
+use Rattle.std.proofs.Common.{◌≡◌, ℕ, List, get_or}
 use Rattle.blocks.specs.Blocks.{gathered, block_offset}
 use Rattle.blocks.proofs.Cuts.{filled}
 use Rattle.blocks.proofs.gather.Given as goal
 
-abbrev pub invariant-loop-block : goal.invariant-loop-block
-invariant-loop-block l = (l.block ≤ l.blocks)
-    × ((l.a ≡ block_offset l.v l.level l.block) × ((length l.out ≡ length l.initial.out) × (l.out ≡ filled (gathered l.v l.level (λ q. get_or l.received q 0)) l.initial.out l.block l.a)))
+pub record Gathered (v level b a : ℕ) (received out₀ out : List ℕ) : Type 0 where
+  pub place : a ≡ block_offset v level b
+  pub done : out ≡ filled (gathered v level (λ q. get_or received q 0)) out₀ b a
 
-abbrev pub decreases-loop-block : goal.decreases-loop-block
-decreases-loop-block l = l.blocks - l.block
+abbrev pub invariant-loop-block : goal.invariant-loop-block
+invariant-loop-block l = Gathered l.v l.level l.block l.a l.received l.initial.out l.out

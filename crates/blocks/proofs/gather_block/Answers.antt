@@ -1,8 +1,8 @@
 -- `blocks::gather_block` meets its contract. The invariant: the first p codewords of the block are gathered.
-use mathlib.Core.Path.{refl, ap, ◌∙◌}
+use mathlib.Core.Path.{refl, ap}
 use Prim.Native.Nat.{ℕ}
 use native.Mathlib.Omega.{arith}
-use lib.ListN.{get_or, length-set}
+use lib.ListN.{get_or}
 use Rattle.basics.specs.Build.{build}
 use Rattle.basics.proofs.Build.{build_put}
 use Rattle.tables.specs.Tables.{block_length}
@@ -13,34 +13,29 @@ use Rattle.blocks.proofs.gather_block.Goals as goal
 
 pub loop-p-init : goal.loop-p-init
 unfolding build
-loop-p-init c = (omega arith, (refl, refl))
+loop-p-init c = refl
 
-pub place-q-requires : goal.place-q-requires
-place-q-requires c = (turn_of _ _ _ _ _ c.requires.lawful.0 c.sizes_of-s.ensures c.requires.lawful.1.0 (omega (arith, c.requires.lawful.1.1))).asked
+pub place-requires : goal.place-requires
+place-requires c = (turn_of _ _ _ _ _ c.requires.lawful.0 c.sizes_of-s.ensures c.requires.lawful.1.0 (omega (arith, c.requires.lawful.1.1))).asked
 
-pub bounds-received-q : goal.bounds-received-q
-bounds-received-q c =
+pub bounds-received-place : goal.bounds-received-place
+bounds-received-place c =
     let a = c.args in
     let t = turn_of c.sizes_of-s.result a.v a.level a.b c.loop-p.p c.requires.lawful.0 c.sizes_of-s.ensures c.requires.lawful.1.0 (omega (arith, c.requires.lawful.1.1)) in
-    omega (arith, t.given c.place-q.result c.place-q.ensures)
+    omega (arith, t.given c.place.result c.place.ensures)
 
 pub loop-p-preserved : goal.loop-p-preserved
 loop-p-preserved c =
     let l = c.loop-p in
     let a = c.args in
-    let t = turn_of c.sizes_of-s.result a.v a.level a.b l.p c.requires.lawful.0 c.sizes_of-s.ensures c.requires.lawful.1.0 (omega (arith, c.requires.lawful.1.1)) in (
-      omega arith,
-      (
-        simp length-set l.invariant.1.0,
-        build_put (λ p. get_or a.received.now (sent_place a.v a.level a.b p) 0) l.out l.p _ l.invariant.1.1 (omega arith)
-            (ap (λ (q : ℕ). get_or a.received.now q 0) (t.given c.place-q.result c.place-q.ensures).0),
-      ),
-    )
+    let t = turn_of c.sizes_of-s.result a.v a.level a.b l.p c.requires.lawful.0 c.sizes_of-s.ensures c.requires.lawful.1.0 (omega (arith, c.requires.lawful.1.1)) in
+    build_put (λ p. get_or a.received.now (sent_place a.v a.level a.b p) 0) l.out l.p _ l.invariant (omega arith)
+    (ap (λ (q : ℕ). get_or a.received.now q 0) (t.given c.place.result c.place.ensures).0)
 
 pub returns : goal.returns
 unfolding gathered
 returns c =
     let l = c.loop-p in
     let a = c.args in
-    built (λ p. get_or a.received.now (sent_place a.v a.level a.b p) 0) l.out l.p (block_length a.v a.level a.b) l.invariant.1.1
-    (omega (arith, c.requires.lawful.1.1)) (l.invariant.1.0 ∙ c.requires.lawful.1.1)
+    built (λ p. get_or a.received.now (sent_place a.v a.level a.b p) 0) l.out l.p (block_length a.v a.level a.b) l.invariant
+    (omega (arith, c.requires.lawful.1.1)) (omega (arith, c.requires.lawful.1.1))

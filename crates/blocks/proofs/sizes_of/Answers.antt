@@ -4,4 +4,4 @@ use Rattle.blocks.proofs.sizes_of.Goals as goal
 
 pub returns : goal.returns
 unfolding sizes_of
-returns c = rw (c.data-held.ensures, c.blocks-blocks.ensures, c.short_length-short.ensures, c.short_blocks-few.ensures)
+returns c = rw (c.data.ensures, c.blocks-2.ensures, c.short_length.ensures, c.short_blocks.ensures)

@@ -6,11 +6,11 @@ use Rattle.field.specs.Field.{pow_n}
 use Rattle.code.proofs.Division.{generator_none, generator_more}
 use Rattle.code.proofs.generator.Goals as goal
 
-pub loop-roots-init : goal.loop-roots-init
+pub loop-init : goal.loop-init
 unfolding pow_n
-loop-roots-init c = (search rules, refl, generator_none)
+loop-init c = (refl, generator_none)
 
-pub loop-roots-preserved : goal.loop-roots-preserved
+pub loop-preserved : goal.loop-preserved
 unfolding pow_n
-loop-roots-preserved c = let l = c.loop-roots in
-    (search rules, rw (add-one, c.dbl-root.ensures, l.invariant.1), generator_more l.roots l.root l.g _ (search rules) l.invariant.1 l.invariant.2 c.times_root-next.ensures)
+loop-preserved c = let l = c.loop in
+    (rw (add-one, c.dbl-root.ensures, l.invariant.0), generator_more l.counter l.root l.g _ (search rules) l.invariant.0 l.invariant.1 c.times_root-g.ensures)

@@ -7,15 +7,15 @@ use Rattle.field.specs.Field.{pow_n}
 use Rattle.code.proofs.Lanes.{fill_none, fill_more, fill_all}
 use Rattle.code.proofs.powers.Goals as goal
 
-pub loop-k-init : goal.loop-k-init
+pub loop-place-init : goal.loop-place-init
 unfolding pow_n
-loop-k-init c = (search rules, refl, fill_none pow_n 32)
+loop-place-init c = (refl, fill_none pow_n 32)
 
-pub loop-k-preserved : goal.loop-k-preserved
+pub loop-place-preserved : goal.loop-place-preserved
 unfolding pow_n
-loop-k-preserved c = let l = c.loop-k in
-    (search rules, rw (add-one, c.dbl-power.ensures, l.invariant.1), fill_more pow_n 32 l.k _ l.p l.invariant.2 (search rules) l.invariant.1)
+loop-place-preserved c = let l = c.loop-place in
+    (rw (add-one, c.dbl-power.ensures, l.invariant.0), fill_more pow_n 32 l.place-index _ l.place-items l.invariant.1 (search rules) l.invariant.0)
 
 pub returns : goal.returns
-returns c = let l = c.loop-k in
-    fill_all pow_n 32 l.k l.p l.invariant.2 (omega arith)
+returns c = let l = c.loop-place in
+    fill_all pow_n 32 l.place-index l.place-items l.invariant.1 (omega arith)

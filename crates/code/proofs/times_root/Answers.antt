@@ -11,10 +11,10 @@ use Rattle.code.proofs.times_root.Goals as goal
 
 pub loop-k-init : goal.loop-k-init
 unfolding build rooted
-loop-k-init c = (search rules, search rules, take-suc c.args.g 0 0 (search rules))
+loop-k-init c = (search rules, take-suc c.args.g 0 0 (search rules))
 
 pub loop-k-preserved : goal.loop-k-preserved
 unfolding rooted
 loop-k-preserved c = let l = c.loop-k in
     let a = c.args in
-    (search rules, simp length-set l.invariant.1, build_put (rooted a.g a.a) l.r (l.k + 1) _ l.invariant.2 (search rules) (rw (c.mul.ensures, add-one)))
+    (simp length-set l.invariant.0, build_put (rooted a.g a.a) l.r (l.k + 1) _ l.invariant.1 (search rules) (rw (c.mul.ensures, add-one)))

@@ -1,11 +1,11 @@
--- `code::values` meets its contract: after that many turns the values are those of the codewords that were read.
+-- `code::values` meets its contract: after each codeword the values are those of the codewords that were read.
 use borrow.Author.Rules.{rules}
 use Rattle.code.proofs.Value.{values_none, values_more}
 use Rattle.code.proofs.values.Goals as goal
 
-pub loop-read-init : goal.loop-read-init
-loop-read-init c = (search rules, values_none)
+pub loop-codeword-init : goal.loop-codeword-init
+loop-codeword-init c = values_none
 
-pub loop-read-preserved : goal.loop-read-preserved
-loop-read-preserved c = let l = c.loop-read in
-    (search rules, values_more _ l.s _ _ l.read (search rules) l.invariant.1 c.powers-p.ensures c.horner-next.ensures)
+pub loop-codeword-preserved : goal.loop-codeword-preserved
+loop-codeword-preserved c = let l = c.loop-codeword in
+    values_more _ l.s _ _ l.codeword-index (search rules) l.invariant c.powers-p.ensures c.horner-next.ensures

@@ -1,19 +1,21 @@
 -- `corrector::correct` meets its contract.
-use mathlib.Core.Path.{refl}
-use native.Mathlib.Omega.{arith}
-use mir.Val.{Fits}
-use mir.Syntax.{w8}
-use lib.ListN.{get_or}
+use Rattle.std.proofs.Common.{get_or, Fits, w8, refl, sym, arith, rules}
+use Rattle.std.proofs.lemmas.Slice.Eq.{bytes_eq-Decides}
+use Rattle.corrector.specs.Lanes.{filled}
 use Rattle.corrector.proofs.Testing.{clean, none}
-use borrow.Author.Rules.{rules}
 use Rattle.corrector.proofs.correct.Goals as goal
 
-pub returns-then-first-eq32 : goal.returns-then-first-eq32
-returns-then-first-eq32 c = clean c.requires.2 c.syndromes-s.ensures c.first.ensures c.if-first-eq32.true
+pub returns-then-eq : goal.returns-then-eq
+unfolding filled
+returns-then-eq c = clean c.requires.2 c.syndromes-s.ensures ((bytes_eq-Decides c.syndromes-s.result (filled 0)).0 (sym c.if-eq.ensures))
     (λ j l. let f : Fits w8 (get_or c.args.word.now j 0) = search rules in omega (arith, f))
     c.missing-e.ensures c.if-e-eq0.true
 
+pub returns-in_err-fixed : goal.returns-in_err-fixed
+returns-in_err-fixed c =
+    rw c.from_residual.ensures (refl, λ c' t e st. c.in_err-fixed.ensures c.args.room c' t e c.requires.3 st)
+
 pub returns-in_err-counts : goal.returns-in_err-counts
 returns-in_err-counts c =
-    rw c.from_residual.ensures
-    (refl, none c.args.n c.args.room c.args.word.now c.args.flags.now c.proposed-fixed.result c.requires.3 c.requires.1 (search rules) c.proposed-fixed.ensures c.in_err-counts.ensures)
+    rw c.from_residual-in_err-counts.ensures
+    (refl, none c.args.n c.args.room c.args.word.now c.args.flags.now c.in_ok-fixed.fixed c.requires.3 c.requires.1 (search rules) c.in_ok-fixed.ensures c.in_err-counts.ensures)

@@ -1,25 +1,19 @@
 -- `corrector::differ` meets its contract.
-use Prim.Native.Nat.{ℕ}
-use mathlib.Core.Path.{ap, ◌∙◌}
-use mathlib.Core.Bool.{not, ◌&&◌}
-use native.Mathlib.Omega.{arith}
-use lib.Dec.{eqb}
-use lib.ListN.{get_or}
-use Rattle.basics.specs.Sums.{tally}
+use Rattle.std.proofs.Common.{ℕ, eqb, not, ◌&&◌, ◌∙◌, rules, tests}
+use Rattle.std.proofs.lemmas.Iterator.{YieldsList-from_slice, YieldsList-from_zip}
+use Rattle.std.proofs.lemmas.Iterator.Consumers.{YieldsList-at, YieldsList-from_filter, count_from_yields_List}
 use Rattle.code.specs.Code.{differing}
-use Rattle.corrector.proofs.Counting.{counted_start, counted_step}
+use Rattle.corrector.proofs.Counting.{filtered_zip}
 use Rattle.corrector.proofs.differ.Goals as goal
-
-pub loop-j-init : goal.loop-j-init
-loop-j-init c = (omega arith, counted_start _)
-
-pub loop-j-preserved : goal.loop-j-preserved
-loop-j-preserved c = let l = c.loop-j in
-    let a = c.args in
-    (omega arith, counted_step (λ j. eqb (get_or a.flags.now j 0) 0 && not (eqb (get_or a.word.now j 0) (get_or a.c.now j 0))) l.j l.t c.apart-t.result c.apart-t.ensures l.invariant.1)
 
 pub returns : goal.returns
 unfolding differing
-returns c = let l = c.loop-j in
-    let a = c.args in
-    l.invariant.1.is ∙ ap (λ (n : ℕ). tally n (λ j. eqb (get_or a.flags.now j 0) 0 && not (eqb (get_or a.word.now j 0) (get_or a.c.now j 0)))) (omega arith)
+returns c = let a = c.args in
+    count_from_yields_List c.filter.result c.count.result c.count.ensures.ran
+    (YieldsList-from_filter _ (λ (p : (ℕ × ℕ) × ℕ). eqb p.0.1 0 && not (eqb p.0.0 p.1))
+    (YieldsList-at c.filter.ensures.source
+    (YieldsList-from_zip
+    (YieldsList-at c.zip-2.ensures.first (YieldsList-from_zip (YieldsList-at c.zip.ensures.first (YieldsList-from_slice a.word.now cc)) (YieldsList-from_slice a.flags.now (search rules))))
+    (YieldsList-from_slice a.c.now (search rules))))
+    c.filter.ensures.closure (λ x b q k. search (rules, tests)))
+    ∙ filtered_zip (λ (p : (ℕ × ℕ) × ℕ). eqb p.0.1 0 && not (eqb p.0.0 p.1)) a.word.now a.flags.now a.c.now c.requires.0 c.requires.1

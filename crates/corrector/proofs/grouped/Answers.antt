@@ -12,8 +12,7 @@ loop-i-preserved c = let l = c.loop-i in
     let a = c.args in
     let r = c.noted-list.result in
     let bv : Fits w8 (get_or a.vs l.i 0) = search rules in (
-      omega arith,
       c.noted-list.ensures.0,
       grouped_turn a.flags.now a.vs a.xs a.top a.many l.i a.found.at a.found.xs a.found.count l.list.at l.list.xs l.list.count r.at r.xs r.count
-          c.requires.2 c.requires.3 (omega arith) (omega (arith, bv)) c.noted-list.ensures.1 l.invariant.2,
+          c.requires.2 c.requires.3 (omega arith) (omega (arith, bv)) c.noted-list.ensures.1 l.invariant.1,
     )

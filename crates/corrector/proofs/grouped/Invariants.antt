@@ -11,10 +11,7 @@ use Rattle.corrector.specs.Places.{Found}
 use Rattle.corrector.proofs.grouped.Given as goal
 
 abbrev pub invariant-loop-i : goal.invariant-loop-i
-invariant-loop-i l = (l.i ≤ l.many) × (l.list.count ≤ 31)
+invariant-loop-i l = (l.list.count ≤ 31)
     × ((a : List ℕ) → ((i : ℕ) → i < l.many → poly l.vs i ≡ eval gf256 32 (poly a) (poly l.xs i))
     → ((i : ℕ) → i < l.many → get_or l.xs i 0 ≡ pow_n (length l.flags - (l.top - i)))
     → Found l.flags a l.top l.initial.list.at l.initial.list.xs l.initial.list.count → Found l.flags a (l.top - l.i) l.list.at l.list.xs l.list.count)
-
-abbrev pub decreases-loop-i : goal.decreases-loop-i
-decreases-loop-i l = l.many - l.i

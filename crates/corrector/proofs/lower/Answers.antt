@@ -1,13 +1,7 @@
 -- `corrector::lower` meets its contract.
-use borrow.Author.Rules.{rules}
-use native.Mathlib.Omega.{arith}
-use Rattle.corrector.proofs.Late.{lowered_start, lowered_all}
+use Rattle.std.proofs.Common.{rules}
+use Rattle.corrector.proofs.Late.{lowered_made}
 use Rattle.corrector.proofs.lower.Goals as goal
 
-pub loop-k-init : goal.loop-k-init
-loop-k-init c = (omega arith, omega arith, lowered_start _ _)
-
 pub returns : goal.returns
-returns c = let l = c.loop-k in
-    let a = c.args in
-    lowered_all a.a l.r a.i l.k (search rules) (omega arith) l.invariant.2
+returns c = lowered_made c.args.a c.copy_from_slice.new.self c.args.i (search rules) c.requires c.copy_from_slice.ensures.after

@@ -1,12 +1,7 @@
 -- `corrector::mended` meets its contract.
-use Prim.Native.Nat.{◌-◌, ◌≤◌}
-use mathlib.Core.Path.{◌≡◌}
-use lib.ListN.{length}
+use Rattle.std.proofs.Common.{◌≡◌, length}
 use Rattle.corrector.specs.Places.{Mended}
 use Rattle.corrector.proofs.mended.Given as goal
 
-abbrev pub invariant-loop-done : goal.invariant-loop-done
-invariant-loop-done l = (l.done ≤ l.count) × (length l.r ≡ 255) × Mended l.word l.at l.values l.done l.r
-
-abbrev pub decreases-loop-done : goal.decreases-loop-done
-decreases-loop-done l = l.count - l.done
+abbrev pub invariant-loop-k : goal.invariant-loop-k
+invariant-loop-k l = (length l.r ≡ 255) × Mended l.word l.at l.values l.k l.r

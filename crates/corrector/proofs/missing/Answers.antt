@@ -1,25 +1,15 @@
 -- `corrector::missing` meets its contract.
-use Prim.Native.Nat.{ℕ}
-use mathlib.Core.Path.{ap, ◌∙◌}
-use mathlib.Core.Bool.{not}
-use native.Mathlib.Omega.{arith}
-use lib.Dec.{eqb}
-use lib.ListN.{get_or}
-use Rattle.basics.specs.Sums.{tally}
+use Rattle.std.proofs.Common.{eqb, not, ◌∙◌, rules, tests}
+use Rattle.std.proofs.lemmas.Iterator.{YieldsList-from_slice, YieldsList-from_map}
+use Rattle.std.proofs.lemmas.Iterator.Consumers.{YieldsList-at, sum_by_from_yields_List}
+use Rattle.basics.specs.Sums.{one}
 use Rattle.code.specs.Code.{unreadable}
-use Rattle.corrector.proofs.Counting.{counted_start, counted_step}
+use Rattle.corrector.proofs.Counting.{counted}
 use Rattle.corrector.proofs.missing.Goals as goal
-
-pub loop-j-init : goal.loop-j-init
-loop-j-init c = (omega arith, counted_start _)
-
-pub loop-j-preserved : goal.loop-j-preserved
-loop-j-preserved c = let l = c.loop-j in
-    let flags = c.args.flags.now in
-    (omega arith, counted_step (λ j. not (eqb (get_or flags j 0) 0)) l.j l.e c.mark-e.result c.mark-e.ensures l.invariant.1)
 
 pub returns : goal.returns
 unfolding unreadable
-returns c = let l = c.loop-j in
-    let flags = c.args.flags.now in
-    l.invariant.1.is ∙ ap (λ (n : ℕ). tally n (λ j. not (eqb (get_or flags j 0) 0))) (omega arith)
+returns c = let flags = c.args.flags.now in
+    sum_by_from_yields_List (λ flag. one (not (eqb flag 0))) flags c.map.result c.sum.result c.sum.ensures.ran
+    (YieldsList-from_map _ (λ flag. one (not (eqb flag 0))) (YieldsList-at c.map.ensures.source (YieldsList-from_slice flags cc)) c.map.ensures.closure (λ x r q k. search (rules, tests)))
+    ∙ counted (λ flag. not (eqb flag 0)) flags

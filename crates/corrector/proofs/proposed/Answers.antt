@@ -23,22 +23,22 @@ traced :
     → Traced w flags s left st.a st.b n e st.i st.l st.e found.at found.xs found.count
 traced st found asked bytes folded run whole listed = record { asked = asked; bytes = bytes; folded = folded; run = run; whole = whole; found = listed }
 
-pub returns-then-n-count : goal.returns-then-n-count
-returns-then-n-count c = let k =
+pub returns-then-n-found : goal.returns-then-n-found
+returns-then-n-found c = let k =
     traced c.run-st.result c.suspected-found.result c.requires (λ j l. let f : Fits w8 (get_or c.args.word.now j 0) = search rules in omega (arith, f))
-    c.erased-left.ensures c.run-st.ensures.0 c.run-st.ensures.1 c.suspected-found.ensures in
+    c.erased.ensures c.run-st.ensures.0 c.run-st.ensures.1 c.suspected-found.ensures in
     λ room c' t e small st. absurd (omega (arith, counted k small st))
 
 pub mended-requires : goal.mended-requires
 mended-requires c = let k =
     traced c.run-st.result c.suspected-found.result c.requires (λ j l. let f : Fits w8 (get_or c.args.word.now j 0) = search rules in omega (arith, f))
-    c.erased-left.ensures c.run-st.ensures.0 c.run-st.ensures.1 c.suspected-found.ensures in
+    c.erased.ensures c.run-st.ensures.0 c.run-st.ensures.1 c.suspected-found.ensures in
     (omega arith, omega arith, λ h l. omega (arith, listed_place k (omega arith) h l))
 
 pub returns : goal.returns
 returns c = let k =
     traced c.run-st.result c.suspected-found.result c.requires (λ j l. let f : Fits w8 (get_or c.args.word.now j 0) = search rules in omega (arith, f))
-    c.erased-left.ensures c.run-st.ensures.0 c.run-st.ensures.1 c.suspected-found.ensures in
+    c.erased.ensures c.run-st.ensures.0 c.run-st.ensures.1 c.suspected-found.ensures in
     let v = c.magnitudes-wrong.result in
     let r = c.mended.result in
     λ room c' t e small st. right k small st v r c.magnitudes-wrong.ensures c.mended.ensures (λ h. let f : Fits w8 (get_or r h 0) = search rules in omega (arith, f))

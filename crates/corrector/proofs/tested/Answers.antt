@@ -1,32 +1,33 @@
 -- `corrector::tested` meets its contract.
-use Prim.Native.Nat.{◌≤◌}
-use native.Mathlib.Omega.{arith}
-use Rattle.corrector.proofs.Testing.{zeros_codeword, no_codeword, differing_most, unreadable_most}
-use borrow.Author.Rules.{rules}
+use Rattle.std.proofs.Common.{◌≤◌, arith, rules}
+use Rattle.corrector.specs.Lanes.{filled}
+use Rattle.corrector.proofs.Testing.{equal_rows, unequal_rows, zeros_codeword, codeword_zeros, differing_most, unreadable_most}
 use Rattle.corrector.proofs.tested.Goals as goal
-use Rattle.corrector.proofs.tested.Goals.{After-missing-e}
+use Rattle.corrector.proofs.tested.Goals.{After-differ-wrong}
 
 -- the counts are within the block's length
-counts : (c : After-missing-e) → (c.differ-t.result ≤ 255) × (c.missing-e.result ≤ 255)
+counts : (c : After-differ-wrong) → (c.differ-wrong.result ≤ 255) × (c.args.missing ≤ 255)
 counts c = (
-  omega (arith, c.differ-t.ensures, differing_most c.args.word.now c.args.flags.now c.args.c.now, c.requires.2),
-  omega (arith, c.missing-e.ensures, unreadable_most c.args.flags.now, c.requires.0, c.requires.2),
+  omega (arith, c.differ-wrong.ensures, differing_most c.args.word.now c.args.flags.now c.args.c.now, c.requires.2),
+  omega (arith, c.requires.4, unreadable_most c.args.flags.now, c.requires.0, c.requires.2),
 )
 
-pub returns-then-first-lt32 : goal.returns-then-first-lt32
-returns-then-first-lt32 c = λ t e st. no_codeword c.requires.3 c.syndromes.ensures c.first.ensures c.if-first-lt32.true st.codeword
+pub returns-then-ne : goal.returns-then-ne
+unfolding filled
+returns-then-ne c = λ t e st. unequal_rows c.syndromes.result (filled 0) c.if-ne.ensures (codeword_zeros c.requires.3 c.syndromes.ensures (search rules) st.codeword)
 
-pub overflow_mul-t : goal.overflow_mul-t
-overflow_mul-t c = let k = counts c in search rules
+pub overflow_mul-wrong : goal.overflow_mul-wrong
+overflow_mul-wrong c = let k = counts c in search rules
 
-pub overflow_add-t : goal.overflow_add-t
-overflow_add-t c = let k = counts c in search rules
+pub overflow_add-wrong : goal.overflow_add-wrong
+overflow_add-wrong c = let k = counts c in search rules
 
 pub returns : goal.returns
+unfolding filled
 returns c = record {
-  codeword = zeros_codeword c.requires.3 c.syndromes.ensures c.first.ensures c.if-first-lt32.false (λ j l. omega (arith, c.type_inv.c j));
+  codeword = zeros_codeword c.requires.3 c.syndromes.ensures (equal_rows c.syndromes.result (filled 0) c.if-ne.ensures) (λ j l. omega (arith, c.type_inv.c j));
   long = c.requires.1;
-  differs = c.differ-t.ensures;
-  missing = c.missing-e.ensures;
-  near = c.if-room-t.false;
+  differs = c.differ-wrong.ensures;
+  missing = c.requires.4;
+  near = c.if-room-wrong.false;
 }

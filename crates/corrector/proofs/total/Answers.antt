@@ -1,15 +1,12 @@
 -- `corrector::total` meets its contract.
-use mathlib.Core.Path.{refl}
-use native.Mathlib.Omega.{arith}
-use Rattle.theory.proofs.Sum.{sum}
-use Rattle.corrector.proofs.Rows.{total_step}
+use Rattle.std.proofs.Common.{rules}
+use Rattle.std.specs.Int.Bits.{bit_xor}
+use Rattle.std.proofs.lemmas.Iterator.{YieldsList-from_slice}
+use Rattle.std.proofs.lemmas.Iterator.Consumers.{fold_from_yields_List}
+use Rattle.corrector.proofs.Rows.{totalled}
 use Rattle.corrector.proofs.total.Goals as goal
 
-pub loop-i-init : goal.loop-i-init
-unfolding sum
-loop-i-init c = (omega arith, refl)
-
-pub loop-i-preserved : goal.loop-i-preserved
-unfolding sum
-loop-i-preserved c = let l = c.loop-i in
-    (omega arith, total_step c.args.a l.i l.r l.invariant.1)
+pub returns : goal.returns
+returns c =
+    totalled c.args.a c.fold.result (search rules)
+    (fold_from_yields_List _ bit_xor 0 c.fold.result c.fold.ensures.ran (YieldsList-from_slice c.args.a cc) (λ a x b q k. search rules))

@@ -1,31 +1,40 @@
 -- `corrector::values` meets its contract.
-use borrow.Author.Rules.{rules}
-use mathlib.Core.Path.{◌≡◌, ap, ◌∙◌}
-use native.Mathlib.Omega.{arith}
+use Rattle.std.proofs.Common.{◌≡◌, suc, ◌+◌, ◌-◌, length, take, ap, ◌∙◌, arith, rules}
+use native.Mathlib.Nat.{sub-zero}
+use Rattle.std.proofs.lemmas.Iterator.Adapters.{YieldsList-from_rev_slice}
+use Rattle.std.proofs.lemmas.List.{length_push}
+use Rattle.theory.proofs.Values.{tail_all}
 use Rattle.theory.proofs.Gf.{gf256}
 use Rattle.corrector.specs.Lanes.{filled, poly}
+use Rattle.corrector.proofs.Backwards.{front_turn, front_end}
 use Rattle.corrector.proofs.Rows.{row, Row, zeros_row}
-use Rattle.theory.proofs.Values.{tail_all}
 use Rattle.corrector.proofs.Turns.{valued_start, valued_turn}
 use Rattle.corrector.proofs.values.Goals as goal
 
-pub loop-k-init : goal.loop-k-init
+pub loop-coefficient-init : goal.loop-coefficient-init
 unfolding filled
-loop-k-init c = (zeros_row, omega arith, valued_start c.args.a c.args.xs c.args.m c.requires.1)
+loop-coefficient-init c = (zeros_row, rw sub-zero (valued_start c.args.a c.args.xs c.args.m c.requires.1))
 
-pub loop-k-preserved : goal.loop-k-preserved
+pub loop-coefficient-preserved : goal.loop-coefficient-preserved
 unfolding filled
-loop-k-preserved c = let l = c.loop-k in
+loop-coefficient-preserved c = let l = c.loop-coefficient in
     let a = c.args.a in
+    let m = c.args.m in
     let t = c.times_plus-next.result in
-    let made_row : Row t = row t (search rules) (λ h. search rules) in
-    let coefficients : Row a = row a (search rules) (λ h. search rules) in (
-      made_row,
-      omega arith,
-      λ i m. ap (λ u. poly u i) c.times_plus-next.ensures ∙ valued_turn a c.args.xs l.r l.k (omega arith) coefficients l.invariant.0 (search rules) l.invariant.2 i m,
+    let ra : Row a = row a (search rules) (λ h. search rules) in
+    let here = front_turn a m (omega (arith, ra.long, c.requires.0)) (YieldsList-from_rev_slice (take m a) cc) l.yielded _ l.yielded_by _ _ c.in-Some.coefficient c.in-Some.is c.next.ensures.steps in
+    let before : m - length l.yielded ≡ suc (m - suc (length l.yielded)) = omega (arith, here.0) in
+    let after : m - suc (length l.yielded) ≡ m - (length l.yielded + 1) = omega arith in
+    rw (length_push l.yielded c.in-Some.coefficient) (
+      row t (search rules) (λ h. search rules),
+      λ i h. ap (λ u. poly u i) c.times_plus-next.ensures ∙ (rw after at (valued_turn a c.args.xs l.r (m - suc (length l.yielded)) c.in-Some.coefficient.now ra l.invariant.0 (search rules) here.1 (rw before at l.invariant.1))) i h,
     )
 
 pub returns : goal.returns
-returns c = let l = c.loop-k in
-    let e : l.k ≡ 0 = omega arith in
-    λ i m. (rw e at l.invariant.2) i m ∙ tail_all gf256 32 _ _
+returns c = let l = c.loop-coefficient in
+    let a = c.args.a in
+    let m = c.args.m in
+    let ra : Row a = row a (search rules) (λ h. search rules) in
+    let end = front_end a m (omega (arith, ra.long, c.requires.0)) (YieldsList-from_rev_slice (take m a) cc) l.yielded _ l.yielded_by _ _ c.in-None.is c.next.ensures.steps in
+    let z : m - length l.yielded ≡ 0 = omega (arith, end) in
+    λ i h. (rw z at l.invariant.1) i h ∙ tail_all gf256 32 _ _

@@ -1,11 +1,8 @@
 -- `corrector::values` meets its contract.
-use Prim.Native.Nat.{◌≤◌}
+use Rattle.std.proofs.Common.{◌-◌, length}
 use Rattle.corrector.proofs.Rows.{Row}
 use Rattle.corrector.proofs.Turns.{Valued}
 use Rattle.corrector.proofs.values.Given as goal
 
-abbrev pub invariant-loop-k : goal.invariant-loop-k
-invariant-loop-k l = Row l.r × (l.k ≤ 32) × Valued l.a l.xs l.r l.k
-
-abbrev pub decreases-loop-k : goal.decreases-loop-k
-decreases-loop-k l = l.k
+abbrev pub invariant-loop-coefficient : goal.invariant-loop-coefficient
+invariant-loop-coefficient l = Row l.r × Valued l.fn.a l.xs l.r (l.m - length l.yielded)

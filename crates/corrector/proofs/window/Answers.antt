@@ -12,5 +12,5 @@ unfolding filled
 returns c = let a = c.args.a in
     let ra : Row a = row a (search rules) (λ h. search rules) in
     c.total.ensures
-    ∙ ap (λ t. sum gf256 32 (poly t)) (c.times_plus.ensures ∙ ap (λ t. times_plus a t (filled 0)) c.lower-t.ensures)
+    ∙ ap (λ t. sum gf256 32 (poly t)) (c.times_plus.ensures ∙ ap (λ t. times_plus a t (filled 0)) c.lower.ensures)
     ∙ windowed a c.args.s c.args.i ra (search rules)

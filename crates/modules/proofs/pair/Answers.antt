@@ -2,21 +2,15 @@
 use mathlib.Core.Path.{◌≡◌}
 use Prim.Native.Nat.{suc, ◌+◌, ◌*◌}
 use native.Mathlib.Omega.{arith}
-use Rattle.modules.proofs.Filling.{put_none, put_more, kept_length, few_used, first_place, second_place}
+use Rattle.modules.proofs.Filling.{put_more, few_used, first_place, second_place}
 use Rattle.modules.proofs.pair.Goals as goal
-
-pub loop-t-init : goal.loop-t-init
-loop-t-init c = put_none _ _ _
 
 pub put-used-requires : goal.put-used-requires
 put-used-requires c =
     let l = c.loop-t in
     let in_matrix = rw c.side-s.ensures at c.place-p.ensures.1 in
     let few = few_used _ _ (2 * l.t) _ _ _ _ l.invariant in
-    let long = kept_length _ _ (2 * l.t) _ _ _ _ l.invariant in (
-      omega (arith, in_matrix, c.requires.1.1.1.1, long),
-      omega (arith, few, c.side-s.ensures, c.requires.1.1.1.0),
-    )
+    (omega (arith, in_matrix), omega (arith, few, c.side-s.ensures))
 
 pub put-used-requires-in-loop-t : goal.put-used-requires-in-loop-t
 put-used-requires-in-loop-t c =
@@ -25,10 +19,8 @@ put-used-requires-in-loop-t c =
     let first =
     first_place c.args.v c.args.q l.t _ _ _ _ c.side-s.ensures (omega arith)
     c.pair_row.ensures.0 c.pair_column-right.ensures.0 c.place-p.ensures.0 in
-    let one = put_more _ _ _ _ _ (2 * l.t) _ l.invariant first c.put-used.ensures in (
-      omega (arith, in_matrix, c.requires.1.1.1.1, kept_length _ _ (suc (2 * l.t)) _ _ _ _ one),
-      omega (arith, few_used _ _ (suc (2 * l.t)) _ _ _ _ one, c.side-s.ensures, c.requires.1.1.1.0),
-    )
+    let one = put_more _ _ _ _ _ (2 * l.t) _ l.invariant first c.put-used.ensures in
+    (omega (arith, in_matrix), omega (arith, few_used _ _ (suc (2 * l.t)) _ _ _ _ one, c.side-s.ensures))
 
 pub loop-t-preserved : goal.loop-t-preserved
 loop-t-preserved c =

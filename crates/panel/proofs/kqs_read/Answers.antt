@@ -1,34 +1,24 @@
--- `panel::kqs_read` meets its contract: the reader's answer, as the numbers that the paper names. Each number of a reading is one of 32 bits.
-use Rattle.std.proofs.Common.{refl}
-use Rattle.panel.proofs.Entries.{narrow, told, denied}
+-- `panel::kqs_read` meets its contract: each number of a reading is one of 32 bits.
+use Rattle.panel.proofs.Entries.{narrow}
 use Rattle.panel.proofs.kqs_read.Goals as goal
 
-pub low-requires : goal.low-requires
-low-requires c = (narrow _ _ _ _ _ _ c.in-Read.ensures _ refl).version
+pub overflow_cast-result : goal.overflow_cast-result
+overflow_cast-result c = record { fits = (narrow _ _ _ _ _ _ c.in-Ok.ensures).version }
 
-pub low-requires-in-Read : goal.low-requires-in-Read
-low-requires-in-Read c = (narrow _ _ _ _ _ _ c.in-Read.ensures _ refl).level
+pub overflow_cast-result-in-Ok : goal.overflow_cast-result-in-Ok
+overflow_cast-result-in-Ok c = record { fits = (narrow _ _ _ _ _ _ c.in-Ok.ensures).level }
 
-pub low-requires-in-Read-2 : goal.low-requires-in-Read-2
-low-requires-in-Read-2 c = (narrow _ _ _ _ _ _ c.in-Read.ensures _ refl).mask
+pub overflow_cast-result-in-Ok-2 : goal.overflow_cast-result-in-Ok-2
+overflow_cast-result-in-Ok-2 c = record { fits = (narrow _ _ _ _ _ _ c.in-Ok.ensures).mask }
 
-pub low-requires-in-Read-3 : goal.low-requires-in-Read-3
-low-requires-in-Read-3 c = (narrow _ _ _ _ _ _ c.in-Read.ensures _ refl).payload
+pub overflow_cast-result-in-Ok-3 : goal.overflow_cast-result-in-Ok-3
+overflow_cast-result-in-Ok-3 c = record { fits = (narrow _ _ _ _ _ _ c.in-Ok.ensures).payload }
 
-pub low-requires-in-Read-4 : goal.low-requires-in-Read-4
-low-requires-in-Read-4 c = (narrow _ _ _ _ _ _ c.in-Read.ensures _ refl).segments
+pub overflow_cast-result-in-Ok-4 : goal.overflow_cast-result-in-Ok-4
+overflow_cast-result-in-Ok-4 c = record { fits = (narrow _ _ _ _ _ _ c.in-Ok.ensures).segments }
 
-pub low-requires-in-Read-5 : goal.low-requires-in-Read-5
-low-requires-in-Read-5 c = (narrow _ _ _ _ _ _ c.in-Read.ensures _ refl).differing
+pub overflow_cast-result-in-Ok-5 : goal.overflow_cast-result-in-Ok-5
+overflow_cast-result-in-Ok-5 c = record { fits = (narrow _ _ _ _ _ _ c.in-Ok.ensures).differing }
 
-pub low-requires-in-Read-6 : goal.low-requires-in-Read-6
-low-requires-in-Read-6 c = (narrow _ _ _ _ _ _ c.in-Read.ensures _ refl).unreadable
-
-pub returns-in-Refused : goal.returns-in-Refused
-returns-in-Refused c = denied _ _ _ _ _ _ c.in-Refused.ensures _ _ refl c.number.ensures
-
-pub returns-in-Read : goal.returns-in-Read
-returns-in-Read c =
-    told _ _ _ _ _ _ c.in-Read.ensures _ _ _ _ _ _ _ _ refl
-    c.low.ensures c.low-in-Read.ensures c.low-in-Read-2.ensures c.low-in-Read-3.ensures
-    c.low-in-Read-4.ensures c.low-in-Read-5.ensures c.low-in-Read-6.ensures
+pub overflow_cast-result-in-Ok-6 : goal.overflow_cast-result-in-Ok-6
+overflow_cast-result-in-Ok-6 c = record { fits = (narrow _ _ _ _ _ _ c.in-Ok.ensures).unreadable }

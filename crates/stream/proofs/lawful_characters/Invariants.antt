@@ -1,14 +1,12 @@
--- `stream::lawful_characters` meets its contract. The invariant: the characters are lawful if those that are left are, in what is left of the list.
-use mathlib.Core.Path.{◌≡◌}
-use Prim.Native.Nat.{◌+◌, ◌-◌, ◌≤◌}
-use lib.ListN.{length, drop}
+-- The payload is lawful if what is left of it is, for the pairs that are left; and their counts sum to its length.
+use Rattle.std.proofs.Common.{◌≡◌, length}
+use Rattle.std.specs.Slice.Iter.{chunks_exact_rest, chunks_exact_size}
 use Rattle.stream.specs.Stream.{counts, lawful_characters}
 use Rattle.stream.proofs.lawful_characters.Given as goal
 
-abbrev pub invariant-loop-i : goal.invariant-loop-i
-invariant-loop-i l = (l.i ≤ length l.list)
-    × (l.at + counts (drop l.i l.list) ≡ length l.payload)
-    × (lawful_characters l.list l.payload ≡ lawful_characters (drop l.i l.list) (drop l.at l.payload))
-
-abbrev pub decreases-loop-i : goal.decreases-loop-i
-decreases-loop-i l = length l.list - l.i
+abbrev pub invariant-loop-pair : goal.invariant-loop-pair
+invariant-loop-pair l = record {
+  pairs : chunks_exact_size l.pair-iterator ≡ 2;
+  long : counts (chunks_exact_rest l.pair-iterator) ≡ length l.left;
+  same : lawful_characters l.list l.payload ≡ lawful_characters (chunks_exact_rest l.pair-iterator) l.left;
+}

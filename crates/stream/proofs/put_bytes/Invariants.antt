@@ -1,12 +1,8 @@
--- `stream::put_bytes` meets its contract. The invariant: all is put but the bits of the bytes that are left.
-use Prim.Native.Nat.{◌-◌, ◌≤◌}
-use lib.ListN.{length, drop}
+-- All is put but the bits of the bytes that are left.
+use Rattle.std.proofs.Common.{drop}
 use Rattle.basics.specs.Bits.{byte_bits}
 use Rattle.stream.proofs.Put.{Going}
 use Rattle.stream.proofs.put_bytes.Given as goal
 
-abbrev pub invariant-loop-i : goal.invariant-loop-i
-invariant-loop-i l = (l.i ≤ length l.chars) × Going l.initial.out l.initial.c.at (byte_bits l.chars) l.out l.c.at (byte_bits (drop l.i l.chars))
-
-abbrev pub decreases-loop-i : goal.decreases-loop-i
-decreases-loop-i l = length l.chars - l.i
+abbrev pub invariant-loop-c : goal.invariant-loop-c
+invariant-loop-c l = Going l.initial.out l.initial.cursor.at (byte_bits l.chars) l.out l.cursor.at (byte_bits (drop l.c-index l.chars))

@@ -1,33 +1,29 @@
--- `stream::put_pads` meets its contract. The invariant: the first k pads are pasted in behind the front.
-use mathlib.Core.Path.{◌≡◌, refl, ◌∙◌}
+use Rattle.std.proofs.Common.{arith, ◌≡◌, ◌-◌, ◌++◌, ◌∷◌, ℕ, List, [], length, take, drop, sym, ap, ◌∙◌, length-drop}
 use mathlib.Core.List.{append-nil}
-use Prim.Native.Nat.{◌+◌, ◌-◌}
-use native.Mathlib.Numerals.{add-one}
-use native.Mathlib.Omega.{arith}
-use lib.ListN.{length, length-set, drop_of_length-le}
-use lib.Seq.{paste-zero, paste-suc, take_all}
+use lib.ListN.{drop_of_length-le}
+use lib.Seq.{take_all}
+use Rattle.std.proofs.lemmas.List.{take_more, take_more_set}
 use Rattle.stream.specs.Stream.{pads}
 use Rattle.stream.proofs.Padding.{pads_length, pads_at}
 use Rattle.stream.proofs.put_pads.Goals as goal
 
-pub loop-k-init : goal.loop-k-init
-loop-k-init c = (omega arith, (refl, paste-zero _ c.args.front (pads (length c.args.out.now - c.args.front))))
+-- the bytes behind the front
+behind : (out : List ℕ) (front : ℕ) → length (take (length out - front) (drop front out)) ≡ length out - front
+behind out front = ap length (take_all (length out - front) (drop front out) (rw length-drop (omega arith))) ∙ length-drop front out
 
 pub loop-k-preserved : goal.loop-k-preserved
-loop-k-preserved c = let l = c.loop-k in
-    let a = c.args in
-    let n = length a.out.now - a.front in (
-      omega arith,
-      (
-        simp length-set l.invariant.1.0,
-        rw (l.invariant.1.1, c.pad_byte.ensures, ← pads_at n l.k c.loop-k-test.true, add-one)
-            (paste-suc a.out.now a.front (pads n) l.k 0 (omega arith) (rw pads_length c.loop-k-test.true)),
-      ),
-    )
+loop-k-preserved c =
+    let l = c.loop-k in
+    let n = length c.args.out.now - c.args.front in
+    let long = behind c.args.out.now c.args.front in
+    take_more_set l.byte-items l.k c.pad_byte.result (omega arith)
+    ∙ ap (λ (t : List ℕ). t ++ c.pad_byte.result ∷ []) l.invariant
+    ∙ rw (c.pad_byte.ensures, ← pads_at n l.k (omega arith)) (sym (take_more (pads n) l.k 0 (rw pads_length (omega arith))))
 
 pub returns : goal.returns
-returns c = let l = c.loop-k in
-    let a = c.args in
-    let n = length a.out.now - a.front in
-    let e : l.k ≡ n = omega arith in
-    l.invariant.1.1 ∙ rw (e, take_all n (pads n) (rw pads_length (omega arith)), drop_of_length-le a.out.now {i = a.front + n} (omega arith)) (append-nil _)
+returns c =
+    let l = c.loop-k in
+    let n = length c.args.out.now - c.args.front in
+    let long = behind c.args.out.now c.args.front in
+    let filled : l.byte-items ≡ pads n = sym (take_all l.k l.byte-items (omega arith)) ∙ l.invariant ∙ take_all l.k (pads n) (rw pads_length (omega arith)) in
+    rw (filled, drop_of_length-le (drop c.args.front c.args.out.now) {i = n} (rw length-drop (omega arith)), append-nil)

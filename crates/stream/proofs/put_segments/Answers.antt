@@ -1,40 +1,45 @@
--- `stream::put_segments` meets its contract. The invariant: all is put but the segments of the pairs that are left.
-use Prim.Native.Nat.{◌+◌, ◌<◌, ◌≤◌}
-use native.Mathlib.Omega.{arith}
-use borrow.Author.Rules.{rules}
-use lib.ListN.{length}
-use Rattle.basics.proofs.Parts.{length_part}
-use Rattle.stream.proofs.Pairs.{counts_more, segments_piece, segments_none}
+use Rattle.std.proofs.Common.{arith, rules, ◌≡◌, ◌<◌, ◌++◌, ℕ, List, length, get_or, take, drop, refl, ap, ◌∙◌}
+use Rattle.std.specs.Slice.Iter.{chunks_exact_rest}
+use Rattle.std.specs.declared.slice.ChunksExact.{ChunksExact}
+use Rattle.std.proofs.lemmas.Grind.{common_steps}
+use Rattle.stream.specs.Put.{segment_bits}
+use Rattle.stream.specs.Stream.{counts, segments}
+use Rattle.stream.proofs.Pairs.{counts_more, segments_more, segments_none}
 use Rattle.stream.proofs.Put.{going_start, piece_room, piece_put, going_done}
 use Rattle.stream.proofs.Widths.{segment_le}
 use Rattle.stream.proofs.put_segments.Goals as goal
 
-pub loop-i-init : goal.loop-i-init
-loop-i-init c = (omega arith, (omega arith, going_start _ _ _ (λ i l. omega (arith, c.type_inv.out i))))
+-- the first pair's segment, and those behind it
+module _ {l : List ℕ} (pair rest : List ℕ) {size : ℕ} (e : l ≡ pair ++ rest) (h : length pair ≡ size) (two : size ≡ 2) where
+  piece : (v : ℕ) (s front back : List ℕ) (mode count : ℕ) → counts l ≡ length s → mode ≡ get_or pair 0 0 → count ≡ get_or pair 1 0 → front ≡ take count s → back ≡ drop count s
+      → segments v l s ≡ segment_bits v mode front ++ segments v rest back
+  piece v s front back mode count w m c f b =
+      ap (λ (l : List ℕ). segments v l s) e ∙ segments_more pair rest (h ∙ two) v s (omega (arith, rw e at w)) ∙ rw (f, b, m, c)
 
-pub slice_bounds-put_segment-end : goal.slice_bounds-put_segment-end
-slice_bounds-put_segment-end c = omega (arith, c.loop-i.invariant.1.0, counts_more c.args.list.now c.loop-i.i (omega arith), c.wide.ensures)
+pub loop-pair-init : goal.loop-pair-init
+loop-pair-init c =
+    let e : chunks_exact_rest c.into_iter-pair-iterator.result ≡ c.args.list.now =
+    ap (λ (s : ChunksExact ℕ). chunks_exact_rest s) c.into_iter-pair-iterator.ensures.into_iter_gives ∙ c.chunks_exact-pair-items.ensures.rest in
+    record { pairs = search rules; long = rw e c.requires.0; put = rw e (going_start _ _ _ (λ i l. omega (arith, c.type_inv.out i))) }
 
-pub put_segment-c-requires : goal.put_segment-c-requires
-put_segment-c-requires c =
-    let inside : c.loop-i.p + c.wide.result ≤ length c.args.payload.now = omega (arith, c.loop-i.invariant.1.0, counts_more c.args.list.now c.loop-i.i (omega arith), c.wide.ensures) in
-    let count : c.wide.result < 65536 = rw c.wide.ensures (search rules) in
-    let piece = segments_piece c.args.list.now c.loop-i.i c.args.v c.args.payload.now c.loop-i.p _ _ (omega arith) (omega (arith, c.loop-i.invariant.1.0))
-    c.wide.ensures c.wide-in-loop-i.ensures in (
-      rw c.wide-in-loop-i.ensures (search rules),
-      (rw (length_part c.args.payload.now c.loop-i.p c.wide.result inside) count, piece_room _ _ _ _ _ c.loop-i.invariant.1.1 piece c.requires.1),
-    )
+pub put_segment-cursor-requires : goal.put_segment-cursor-requires
+put_segment-cursor-requires c =
+    let t = c.in-Some.ensures.steps.1 in
+    let whole = piece c.in-Some.pair.now _ t.0 t.1 c.loop-pair.invariant.pairs c.args.v _ _ _ _ _ c.loop-pair.invariant.long refl c.from.ensures
+    c.split_at.ensures.front c.split_at.ensures.back in
+    let short : c.from.result < 65536 = rw c.from.ensures (search rules) in
+    (omega (arith, c.split_at.ensures.front_len), piece_room _ _ _ _ _ c.loop-pair.invariant.put whole c.requires.1)
 
-pub loop-i-preserved : goal.loop-i-preserved
-loop-i-preserved c =
-    let piece = segments_piece c.args.list.now c.loop-i.i c.args.v c.args.payload.now c.loop-i.p _ _ (omega arith) (omega (arith, c.loop-i.invariant.1.0))
-    c.wide.ensures c.wide-in-loop-i.ensures in (
-      omega arith,
-      (
-        omega (arith, c.loop-i.invariant.1.0, counts_more c.args.list.now c.loop-i.i (omega arith), c.wide.ensures),
-        piece_put _ _ _ _ _ c.loop-i.invariant.1.1 piece (segment_le c.args.v c.wide-in-loop-i.result _) c.requires.1 c.put_segment-c.ensures,
-      ),
-    )
+pub loop-pair-preserved : goal.loop-pair-preserved
+loop-pair-preserved c =
+    let t = c.in-Some.ensures.steps.1 in
+    let whole = piece c.in-Some.pair.now _ t.0 t.1 c.loop-pair.invariant.pairs c.args.v _ _ _ _ _ c.loop-pair.invariant.long refl c.from.ensures
+    c.split_at.ensures.front c.split_at.ensures.back in
+    record {
+      pairs = search rules;
+      long = grind (arith, common_steps, counts_more);
+      put = piece_put _ _ _ _ _ c.loop-pair.invariant.put whole (segment_le c.args.v _ _) c.requires.1 c.put_segment-cursor.ensures;
+    }
 
 pub returns : goal.returns
-returns c = going_done _ _ _ c.loop-i.invariant.1.1 (segments_none _ c.loop-i.i _ _ (omega arith))
+returns c = going_done _ _ _ c.loop-pair.invariant.put (segments_none _ (omega (arith, c.in-None.ensures.steps.1.0, c.loop-pair.invariant.pairs)) _ _)

@@ -1,15 +1,13 @@
--- `stream::put_segments` meets its contract. The invariant: all is put but the segments of the pairs that are left.
-use mathlib.Core.Path.{◌≡◌}
-use Prim.Native.Nat.{◌+◌, ◌-◌, ◌≤◌}
-use lib.ListN.{length, drop}
+-- All is put but the segments of the pairs that are left.
+use Rattle.std.proofs.Common.{◌≡◌, length}
+use Rattle.std.specs.Slice.Iter.{chunks_exact_rest, chunks_exact_size}
 use Rattle.stream.specs.Stream.{counts, segments}
 use Rattle.stream.proofs.Put.{Going}
 use Rattle.stream.proofs.put_segments.Given as goal
 
-abbrev pub invariant-loop-i : goal.invariant-loop-i
-invariant-loop-i l = (l.i ≤ length l.list)
-    × ((l.p + counts (drop l.i l.list) ≡ length l.payload)
-    × Going l.initial.out 0 (segments l.v l.list l.payload) l.out l.c.at (segments l.v (drop l.i l.list) (drop l.p l.payload)))
-
-abbrev pub decreases-loop-i : goal.decreases-loop-i
-decreases-loop-i l = length l.list - l.i
+abbrev pub invariant-loop-pair : goal.invariant-loop-pair
+invariant-loop-pair l = record {
+  pairs : chunks_exact_size l.pair-iterator ≡ 2;
+  long : counts (chunks_exact_rest l.pair-iterator) ≡ length l.left;
+  put : Going l.initial.out 0 (segments l.v l.list l.payload) l.out l.cursor.at (segments l.v (chunks_exact_rest l.pair-iterator) l.left);
+}

@@ -7,6 +7,6 @@ pub returns-then-x-lt10 : goal.returns-then-x-lt10
 unfolding hex_digit
 returns-then-x-lt10 c = simp (lt-ltb _ _ c.if-x-lt10.true)
 
-pub returns : goal.returns
+pub returns-else-x-lt10 : goal.returns-else-x-lt10
 unfolding hex_digit
-returns c = simp (le-ltb _ _ c.if-x-lt10.false)
+returns-else-x-lt10 c = simp (le-ltb _ _ c.if-x-lt10.false)

@@ -8,19 +8,17 @@ use Rattle.text.proofs.Turns.{segment_left, no_segment}
 use Rattle.text.proofs.put_segments.Goals as goal
 
 pub loop-k-init : goal.loop-k-init
-loop-k-init c = (omega arith, start_Writing _ _ _)
+loop-k-init c = start_Writing _ _ _
 
 pub put_segment-next-requires : goal.put_segment-next-requires
 put_segment-next-requires c =
-    room _ _ c.requires.1 (said (segment_left _ _ _ _ _ _ c.requires.0 (omega arith) c.wide-mode.ensures c.wide-count.ensures c.part.ensures) c.loop-k.invariant.1)
+    room _ _ c.requires.1 (said (segment_left _ _ _ _ _ _ c.requires.0 (omega arith) c.from-mode.ensures c.from-count.ensures c.part.ensures) c.loop-k.invariant)
 
 pub loop-k-preserved : goal.loop-k-preserved
-loop-k-preserved c = (
-  omega arith,
-  more _ _ (said (segment_left _ _ _ _ _ _ c.requires.0 (omega arith) c.wide-mode.ensures c.wide-count.ensures c.part.ensures) c.loop-k.invariant.1)
-      c.put_segment-next.ensures,
-)
+loop-k-preserved c =
+    more _ _ (said (segment_left _ _ _ _ _ _ c.requires.0 (omega arith) c.from-mode.ensures c.from-count.ensures c.part.ensures) c.loop-k.invariant)
+    c.put_segment-next.ensures
 
 pub returns : goal.returns
 returns c = let l = c.loop-k in
-    done (said (no_segment (l.k + 1) _ (drop (2 * l.k) _) (rw length-drop (omega arith))) l.invariant.1)
+    done (said (no_segment (l.k + 1) _ (drop (2 * l.k) _) (rw length-drop (omega arith))) l.invariant)
