@@ -5,7 +5,6 @@ pub mod Running
 pub mod Erasing
 pub mod Listing
 pub mod Turns
-pub mod Mending
 pub mod Picked
 pub mod Finding
 pub mod Counting
