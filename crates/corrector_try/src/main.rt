@@ -3,38 +3,68 @@
 
 ghost use Rattle.std.specs.Prelude.{◌≡◌, ◌+◌, ◌<◌, ◌≤◌, length};
 
+use corrector::Counts;
 use std::io;
 
 // The data codewords and the checks of each kind of block.
-const DATA: [u8; 47] = [
-    19, 16, 13, 9, 34, 28, 22, 16, 55, 44, 17, 13, 80, 32, 24, 9, 108, 43, 15, 16, 11, 12, 68, 27,
-    19, 15, 78, 31, 14, 13, 14, 97, 38, 39, 18, 19, 15, 116, 36, 37, 16, 17, 12, 13, 69, 43, 20,
-];
-
-const CHECKS: [u8; 47] = [
-    7, 10, 13, 17, 10, 16, 22, 28, 15, 26, 18, 22, 20, 18, 26, 16, 26, 24, 18, 18, 22, 22, 18, 16,
-    24, 28, 20, 18, 18, 26, 26, 24, 22, 22, 22, 22, 26, 30, 22, 22, 20, 20, 24, 24, 18, 26, 24,
+const KINDS: [(u8, u8); 47] = [
+    (19, 7),
+    (16, 10),
+    (13, 13),
+    (9, 17),
+    (34, 10),
+    (28, 16),
+    (22, 22),
+    (16, 28),
+    (55, 15),
+    (44, 26),
+    (17, 18),
+    (13, 22),
+    (80, 20),
+    (32, 18),
+    (24, 26),
+    (9, 16),
+    (108, 26),
+    (43, 24),
+    (15, 18),
+    (16, 18),
+    (11, 22),
+    (12, 22),
+    (68, 18),
+    (27, 16),
+    (19, 24),
+    (15, 28),
+    (78, 20),
+    (31, 18),
+    (14, 18),
+    (13, 26),
+    (14, 26),
+    (97, 24),
+    (38, 22),
+    (39, 22),
+    (18, 22),
+    (19, 22),
+    (15, 26),
+    (116, 30),
+    (36, 22),
+    (37, 22),
+    (16, 20),
+    (17, 20),
+    (12, 24),
+    (13, 24),
+    (69, 18),
+    (43, 26),
+    (20, 24),
 ];
 
 // Bytes that look like chance.
 fn noise(seed: u8) -> [u8; 255] {
     let mut r: [u8; 255] = [0; 255];
-    let mut x: u32 = seed as u32;
-    let mut j: usize = 0;
-    while j < 255 {
+    let mut x = u32::from(seed);
+    for byte in &mut r {
         x = (x * 75 + 74) % 65537;
-        r[j] = (x % 256) as u8;
-        j += 1;
+        *byte = (x % 256) as u8;
     }
-    r
-}
-
-// The checks of the first d bytes.
-fn checks_of(held: [u8; 255], d: usize, n: usize) -> [u8; 30]
-    requires { (d ≤ 200) × (n ≤ 30) }
-{
-    let mut r: [u8; 30] = [0; 30];
-    code::checks_into(&held[..d], &mut r[..n]);
     r
 }
 
@@ -42,13 +72,8 @@ fn checks_of(held: [u8; 255], d: usize, n: usize) -> [u8; 30]
 fn codeword(held: [u8; 255], d: usize, n: usize) -> [u8; 255]
     requires { (d ≤ 200) × (n ≤ 30) }
 {
-    let checks = checks_of(held, d, n);
     let mut r = held;
-    let mut k: usize = 0;
-    while k < n {
-        r[d + k] = checks[k];
-        k += 1;
-    }
+    code::checks_into(&held[..d], &mut r[d..d + n]);
     r
 }
 
@@ -57,10 +82,8 @@ fn spoiled(word: [u8; 255], count: usize) -> [u8; 255]
     requires { count ≤ 255 }
 {
     let mut r = word;
-    let mut k: usize = 0;
-    while k < count {
-        r[k] = word[k] ^ 90;
-        k += 1;
+    for byte in &mut r[..count] {
+        *byte ^= 90;
     }
     r
 }
@@ -70,11 +93,7 @@ fn marked(a: usize, b: usize) -> [u8; 255]
     requires { (a ≤ b) × (b ≤ 255) }
 {
     let mut r: [u8; 255] = [0; 255];
-    let mut k: usize = a;
-    while k < b {
-        r[k] = 1;
-        k += 1;
-    }
+    r[a..b].fill(1);
     r
 }
 
@@ -83,11 +102,7 @@ fn between(word: [u8; 255], other: [u8; 255], a: usize, b: usize) -> [u8; 255]
     requires { (a ≤ b) × (b ≤ 255) }
 {
     let mut r = word;
-    let mut k: usize = a;
-    while k < b {
-        r[k] = other[k];
-        k += 1;
-    }
+    r[a..b].copy_from_slice(&other[a..b]);
     r
 }
 
@@ -105,14 +120,12 @@ fn answer(
     let Some(counts) = corrector::correct(word, flags, n, room) else {
         return println!(rt; "none");
     };
-    let differing = counts.differing;
-    let unreadable = counts.unreadable;
-    print!(rt; "{differing} wrong {unreadable}")?;
-    if *word == *sent {
-        println!(rt; " unreadable, as sent")
-    } else {
-        println!(rt; " unreadable, another")
-    }
+    let Counts {
+        differing,
+        unreadable,
+    } = counts;
+    let found = if *word == *sent { "as sent" } else { "another" };
+    println!(rt; "{differing} wrong {unreadable} unreadable, {found}")
 }
 
 // A codeword of d data codewords and n checks, the first of them wrong and those after them unreadable.
@@ -156,25 +169,14 @@ fn kind(rt: &impl Print, d: usize, n: usize, seed: u8) -> io::Result<()>
     attempt(rt, d, n, n, third, n - third * 2, seed)
 }
 
-// A byte as a count.
-fn wide(x: u8) -> usize {
-    x as usize
-}
-
 // Each kind of block.
 fn every(rt: &impl Print) -> io::Result<()> {
-    let data = DATA;
-    let checks = CHECKS;
-    let mut k: usize = 0;
-    while k < 47 {
-        let d = wide(data[k]);
-        let n = wide(checks[k]);
-        if d <= 200 {
-            if n <= 30 {
-                kind(rt, d, n, data[k])?;
-            }
+    for (data, checks) in KINDS {
+        let d = usize::from(data);
+        let n = usize::from(checks);
+        if d <= 200 && n <= 30 {
+            kind(rt, d, n, data)?;
         }
-        k += 1;
     }
     Ok(())
 }

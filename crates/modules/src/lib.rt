@@ -81,14 +81,14 @@ pub fn format_place(v: usize, copy: usize, b: usize) -> usize
     ensures { result ≡ get_or (format_places v copy) b 0 }
 {
     let s = tables::side(v);
+    // the long runs of bits first
     if copy == 1 {
-        return if b <= 7 {
+        if b <= 7 {
             place(s, 8, s - 1 - b)
         } else {
             place(s, s - 15 + b, 8)
-        };
-    }
-    if b <= 5 {
+        }
+    } else if b <= 5 {
         place(s, b, 8)
     } else if b >= 9 {
         place(s, 8, 14 - b)
@@ -301,6 +301,7 @@ fn tint_row(base: &[u8], out: &mut [u8], plain: u64, turned: u64, row: u64)
     requires { (length out.old ≡ length base.now) × ((length base.now ≤ 57) × AtMost 18 base.now) }
     ensures { out.new ≡ build (λ j. tinted plain turned row j (get_or base.now j 0)) (length base.now) }
 {
+    // `base` by its index: of a zipped loop the check does not know what was written
     for (j, colour) in out.iter_mut().enumerate() {
         *colour = tint(plain, turned, row, j, base[j]);
     }

@@ -49,12 +49,6 @@ unfolding body_width
 none_width mode = same_each (eqb mode 1) (eqb mode 2) 0
 
 module _ (codewords : List ℕ) (mode count used at₀ : ℕ) (payload₀ : List ℕ) where
-  pub along_none : Along codewords mode count used at₀ payload₀ payload₀ at₀ 0
-  along_none =
-      let e : count - 0 ≡ count = omega arith in
-      let f : used + 0 ≡ used = omega arith in
-      record { long = refl; passed = omega arith; place = rw e; ranges = rw e; chars = rw (e, f) }
-
   module _ (payload : List ℕ) (at done : ℕ) (a : Along codewords mode count used at₀ payload₀ payload at done) where
     -- all of it
     pub along_all : done ≡ count → BodyReads codewords at₀ mode count used payload₀ payload (Ok (record { at = at }))

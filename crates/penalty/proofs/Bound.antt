@@ -30,7 +30,7 @@ lines_small m start step stride s h =
     let each : s - 2 + 40 * (s - 10) ≤ 1935 = omega arith in
     le_trans (lines_le m start step stride s s) (mul-le-mul h each)
 
-sum_bound : (n : ℕ) (f : ℕ → ℕ) (b : ℕ) → ((k : ℕ) → f k ≤ b) → sum n f ≤ n * b
+pub sum_bound : (n : ℕ) (f : ℕ → ℕ) (b : ℕ) → ((k : ℕ) → f k ≤ b) → sum n f ≤ n * b
 unfolding sum
 sum_bound zero f b h = omega arith
 sum_bound (suc n) f b h = rw suc-mul (omega (arith, sum_bound n f b h, h n))

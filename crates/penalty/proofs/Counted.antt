@@ -8,7 +8,7 @@ use native.Mathlib.Nat.{zero-add, add-zero, mul-one, zero-mul, suc-mul, mul-le-m
 use native.Mathlib.Decide.{dec_le}
 use native.Mathlib.Numerals.{add-one}
 use native.Mathlib.Omega.{arith}
-use borrow.Author.Tests.{eq-eqb, le-leb, lt-leb}
+use borrow.Author.Tests.{le-leb, lt-leb}
 use lib.Dec.{leb, eqb}
 use lib.ListN.{get_or}
 use Rattle.basics.specs.Sums.{sum, one, tally}
@@ -18,7 +18,7 @@ use Rattle.penalty.specs.Penalty.{finder_like, runs, windows, lines}
 use Rattle.penalty.specs.Lines.{line, lines_from, alike, alike_from, windows_from}
 use Rattle.penalty.proofs.Lines.{length_line, line_cons}
 use Rattle.penalty.proofs.Runs.{lead, firsts, lead_same, firsts_cons, short_firsts, runs_firsts}
-use Rattle.penalty.proofs.Sums.{sum_walk, sum_plus, sum_times, sum_grid, tally_split, tally_more}
+use Rattle.penalty.proofs.Sums.{sum_walk, sum_plus, sum_times, sum_grid}
 use Rattle.penalty.proofs.Windows.{short_windows, windows_line}
 
 suc_leb : (k l : ℕ) → leb k l ≡ leb (suc k) (suc l)
@@ -43,11 +43,6 @@ and_true true = refl
 and_true false = refl
 
 module _ (m : List ℕ) (stride : ℕ) where
-  -- one module, and one more
-  pub alike_one : (at : ℕ) → alike m at stride 1 ≡ true
-  unfolding alike each line
-  alike_one at = rw (eq-eqb (get_or m at 0) (get_or m at 0) refl)
-
   each_more : (test : ℕ → Bool) (at k : ℕ) → each test (line m at stride (suc k)) ≡ each test (line m at stride k) && test (get_or m (at + k * stride) 0)
   unfolding each line
   each_more test at zero =
@@ -61,6 +56,7 @@ module _ (m : List ℕ) (stride : ℕ) where
       and_assoc true b c = refl
       and_assoc false b c = refl
 
+  -- one module more
   pub alike_more : (at k : ℕ) → alike m at stride (k + 1) ≡ alike m at stride k && eqb (get_or m (at + k * stride) 0) (get_or m at 0)
   unfolding alike
   alike_more at k = rw add-one (each_more (λ x. eqb x (get_or m at 0)) at k)
@@ -156,30 +152,7 @@ module _ (m : List ℕ) (s : ℕ) (h : 10 ≤ s) where
       longer : (at : ℕ) → one (alike m at s (k + 1)) ≤ one (alike m at s k)
       longer at = rw (alike_more m s at k) (both (alike m at s k) _)
 
--- ---- counts in parts
-
--- the places before a and b places from there on
-places_split : (test : ℕ → Bool) (a b : ℕ) → tally (a + b) (λ j. test (0 + j)) ≡ tally a (λ j. test (0 + j)) + tally b (λ j. test (a + j))
-unfolding tally
-places_split test a b =
-    tally_split a b (λ j. test (0 + j)) ∙ ap (λ (x : ℕ). tally a (λ j. test (0 + j)) + x) (sum_same b _ _ (λ j h. ap (λ (p : ℕ). one (test p)) (zero-add (a + j))))
-
-pub runs_split : (m : List ℕ) (stride k a b : ℕ) → alike_from m 0 stride k (a + b) ≡ alike_from m 0 stride k a + alike_from m a stride k b
-unfolding alike_from
-runs_split m stride k a b = places_split (λ p. alike m p stride k) a b
-
-pub windows_split : (m : List ℕ) (stride a b : ℕ) → windows_from m 0 stride (a + b) ≡ windows_from m 0 stride a + windows_from m a stride b
-unfolding windows_from
-windows_split m stride a b = places_split (λ p. finder_like (line m p stride 11)) a b
-
-pub runs_more : (m : List ℕ) (start stride k n : ℕ) (b : Bool) → b ≡ alike m (start + n) stride k → alike_from m start stride k (n + 1) ≡ alike_from m start stride k n + one b
-unfolding alike_from
-runs_more m start stride k n b e = tally_more n _ b e
-
-pub windows_more : (m : List ℕ) (start stride n : ℕ) (b : Bool) → b ≡ finder_like (line m (start + n) stride 11)
-    → windows_from m start stride (n + 1) ≡ windows_from m start stride n + one b
-unfolding windows_from
-windows_more m start stride n b e = tally_more n _ b e
+-- ---- how many there can be
 
 pub runs_from_le : (m : List ℕ) (start stride k n : ℕ) → alike_from m start stride k n ≤ n
 unfolding alike_from

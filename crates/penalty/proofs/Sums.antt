@@ -3,6 +3,7 @@
 --     sum_walk     what a walk with steps of d adds is a sum
 --     sum_split    a sum in two parts; tally_split, the same of a tally
 --     sum_plus     a sum of sums; sum_times, of multiples
+--     sum_range    what a chain over 0, .., n - 1 adds
 --     sum_grid     what stands in s columns of t rows, column by column, stands in t · s places, one after the other
 use mathlib.Core.Path.{◌≡◌, refl, sym, ap, ap₂, ◌∙◌}
 use mathlib.Core.Bool.{Bool}
@@ -10,6 +11,10 @@ use Prim.Native.Nat.{ℕ, zero, suc, ◌+◌, ◌*◌}
 use native.Mathlib.Nat.{add-zero, add-suc, add_assoc, zero-mul, suc-mul, mul-add}
 use native.Mathlib.Numerals.{add-one}
 use native.Mathlib.Omega.{arith}
+use mathlib.Core.List.{map}
+use Rattle.std.specs.List.{range_with_len}
+use Rattle.std.specs.List.{sum as total}
+use Rattle.std.proofs.lemmas.List.FromFn.{sum_by-map-range_with_len_more}
 use Rattle.basics.specs.Sums.{sum, one, tally}
 use Rattle.basics.proofs.Sums.{sum_same, sum_zero}
 
@@ -60,3 +65,11 @@ sum_grid s (suc t) f =
     ∙ ap₂ ◌+◌ (sum_grid s t f) (sum_same s _ _ (λ j h. ap f (omega arith)))
     ∙ sym (sum_split (t * s) s f)
     ∙ ap (λ (n : ℕ). sum n f) (sym (suc-mul t s))
+
+pub sum_range : (f : ℕ → ℕ) (n : ℕ) → total (map f (range_with_len 0 n)) ≡ sum n f
+unfolding sum
+sum_range f zero = refl
+sum_range f (suc n) =
+    ap (λ (k : ℕ). total (map f (range_with_len 0 k))) (sym (add-one n))
+    ∙ sum_by-map-range_with_len_more (λ x. x) f 0 n n (omega arith)
+    ∙ ap (λ (x : ℕ). x + f n) (sum_range f n)

@@ -1,7 +1,7 @@
 -- The columns of a turned matrix are the rows of the matrix: `turned_lines`.
 use mathlib.Core.Path.{◌≡◌, sym, ap, ap₂, ◌∙◌}
 use mathlib.Core.List.{List, ◌++◌, append_assoc, append-nil}
-use Prim.Native.Nat.{ℕ, zero, suc, ◌+◌, ◌-◌, ◌*◌, ◌<◌, ◌≤◌}
+use Prim.Native.Nat.{ℕ, zero, suc, ◌+◌, ◌-◌, ◌*◌, ◌<◌}
 use native.Mathlib.Nat.{zero-add, add-zero, zero-mul, suc-mul, mul-one, not-suc-le-zero, le_of_suc-le-suc}
 use native.Mathlib.Numerals.{add-one}
 use native.Mathlib.Omega.{arith}
@@ -50,10 +50,6 @@ turned_lines m rest s =
     let e : i * 1 + j * s ≡ j * s + i = rw mul-one (omega arith) in
     let f : 0 + j * 1 + i * s ≡ i * s + j * 1 = omega arith in
     ap (λ (p : ℕ). get_or (joined (lines_from m 0 1 s s s) ++ rest) p 0) e ∙ get_d_joined m 1 s s rest 0 s j i l h ∙ ap (λ (p : ℕ). get_or m p 0) f)
-
-pub turned_long : (m rest : List ℕ) (s : ℕ) → s * s ≤ length (turned s m ++ rest)
-unfolding turned
-turned_long m rest s = rw (length-append, length_joined m 1 s s 0 s) (omega arith)
 
 -- one column more is copied
 pub turn_more : (m out out₀ ys : List ℕ) (s i : ℕ) → out ≡ joined (lines_from m 0 1 s s i) ++ drop (i * s) out₀ → ys ≡ line m i s s

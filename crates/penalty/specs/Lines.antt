@@ -1,5 +1,5 @@
 -- The lines of a matrix by a start and a stride: a row has stride 1, a column the side.
-use Rattle.std.specs.Prelude.{Bool, ◌&&◌, List, [], ◌∷◌, ℕ, zero, suc, ◌+◌, ◌*◌, eqb, get_or}
+use Rattle.std.specs.Prelude.{◌≡◌, Bool, ◌&&◌, List, [], ◌∷◌, ℕ, zero, suc, ◌+◌, ◌*◌, ◌<◌, eqb, get_or}
 use Rattle.basics.specs.Sums.{one, sum, tally}
 use Rattle.basics.specs.Lists.{each, joined}
 use Rattle.penalty.specs.Penalty.{finder_like}
@@ -38,3 +38,7 @@ square a b c d = 3 * one (eqb a b && eqb a c && eqb a d)
 unfoldable pub squares_from : (s : ℕ) (m : List ℕ) (start n : ℕ) → ℕ
 squares_from s m start n =
     sum n (λ j. square (get_or m (start + j) 0) (get_or m (start + j + 1) 0) (get_or m (start + s + j) 0) (get_or m (start + s + j + 1) 0))
+
+-- each answer that `post` allows at 0, .., n - 1 is that of a test
+abbrev pub AnswersAs : (post : ℕ → Bool → Type 0) (test : ℕ → Bool) (n : ℕ) → Type 0
+AnswersAs post test n = (i : ℕ) (b : Bool) → i < n → post i b → b ≡ test i

@@ -2,10 +2,11 @@
 // stands there, so that the compiler counts sixteen places at a time and a score takes as long for one symbol as for another of its side.
 #![tactic(auto)]
 
-ghost use Rattle.std.specs.Prelude.{◌≡◌, ◌++◌, ◌+◌, ◌-◌, ◌*◌, ◌<◌, ◌≤◌, length, drop};
+ghost use Rattle.std.specs.Prelude.{ℕ, Bool, ◌≡◌, ◌++◌, ◌+◌, ◌-◌, ◌*◌, ◌<◌, ◌≤◌, length, drop};
 ghost use Rattle.basics.specs.Lists.{same, AtMost};
+ghost use Rattle.basics.specs.Sums.{tally};
 ghost use Rattle.penalty.specs.Penalty as paper;
-ghost use Rattle.penalty.specs.Lines.{line, lines_from, alike, alike_from, windows_from, turned, square, squares_from};
+ghost use Rattle.penalty.specs.Lines.{line, AnswersAs, lines_from, alike, turned, square, squares_from};
 
 // The finder-like patterns, 10111010000 and 00001011101.
 const PATTERNS: [[u8; 11]; 2] = [
@@ -13,125 +14,63 @@ const PATTERNS: [[u8; 11]; 2] = [
     [0, 0, 0, 0, 1, 0, 1, 1, 1, 0, 1],
 ];
 
-// Whether two windows are equal.
-fn equal(w: [u8; 11], p: [u8; 11]) -> bool
-    ensures { result ≡ same w p }
+// Whether two windows are equal. Module by module, since by `==` of arrays a score at side 57 takes 67,900 instructions in place of 64,000.
+fn equal(w: &[u8; 11], p: &[u8; 11]) -> bool
+    ensures { result ≡ same w.now p.now }
 {
-    let mut k: usize = 0;
-    while k < 11 {
-        if w[k] != p[k] {
-            return false;
-        }
-        k += 1;
-    }
-    true
+    w.iter().zip(p).all(|(x, y)| x == y)
 }
 
 // Whether a window is one pattern or the other.
+#[tactic(auto, unfolding(crate::specs::Penalty::finder_like, crate::specs::Penalty::patterns))]
 fn finder_like(w: [u8; 11]) -> bool
     ensures { result ≡ paper.finder_like w }
 {
-    let table = PATTERNS;
-    let first = table[0];
-    let second = table[1];
-    if equal(w, first) {
-        return true;
-    }
-    equal(w, second)
+    PATTERNS.iter().any(|p| equal(&w, p))
 }
 
-// The window at start: eleven modules, a row's at stride 1, a column's at the side.
-fn window(m: &[u8], start: usize, stride: usize) -> [u8; 11]
-    requires { (stride ≤ 64) × (start + 10 * stride < length m.now) }
-    ensures { result ≡ line m.now start stride 11 }
+// The window of N modules at start: a row's at stride 1, a column's at the side.
+fn window<const N: usize>(m: &[u8], start: usize, stride: usize) -> [u8; N]
+    requires { (stride ≤ 64) × ((N ≤ 64) × (start + N * stride < length m.now + stride)) }
+    ensures { result ≡ line m.now start stride N }
 {
-    let mut w = [0u8; 11];
-    let mut k: usize = 0;
-    while k < 11 {
-        w[k] = m[start + k * stride];
-        k += 1;
-    }
-    w
+    std::array::from_fn(|k| m[start + k * stride])
 }
 
-// How many of n places from start on, few enough for a byte, begin a window that is a pattern.
-fn windows_among(m: &[u8], start: usize, stride: usize, n: usize) -> u8
-    requires { (stride ≤ 64) × ((n ≤ 64) × (start + n + 10 * stride ≤ length m.now)) }
-    ensures { result ≡ windows_from m.now start stride n }
+// Whether K modules are equal, the one at `at` and those after it.
+fn equal_run<const K: usize>(m: &[u8], at: usize, stride: usize) -> bool
+    requires { (stride ≤ 64) × ((1 ≤ K) × ((K ≤ 64) × (at + K * stride < length m.now + stride))) }
+    ensures { result ≡ alike m.now at stride K }
+{
+    let run: [u8; K] = window(m, at, stride);
+    let first = run[0];
+    run.iter().all(|x| *x == first)
+}
+
+// How many of n places from start on, few enough for a byte, pass a test.
+fn passing_among<F: Fn(usize) -> bool>(start: usize, n: usize, test: &F) -> u8
+    requires { (n ≤ 64) × ((start ≤ 4096) × ((i : ℕ) → i < n → F.pre test.now (start + i))) }
+    ensures { (g : ℕ → Bool) → AnswersAs (λ i b. F.post test.now (start + i) b) g n → result ≡ tally n g }
 {
     let mut count: u8 = 0;
-    let mut i: usize = 0;
-    while i < n {
-        if finder_like(window(m, start + i, stride)) {
+    for i in 0..n {
+        if test(start + i) {
             count += 1;
         }
-        i += 1;
     }
     count
 }
 
-// How many places begin a window of a column that is a pattern.
-fn windows_down(m: &[u8], s: usize) -> u32
-    requires { (10 ≤ s) × ((s ≤ 64) × (s * s ≤ length m.now)) }
-    ensures { result ≡ windows_from m.now 0 s ((s - 10) * s) }
+// How many of the first n places pass a test. Sixty-four at a time, since by one chain over all places a score takes 183,000 instructions and more.
+fn passing<F: Fn(usize) -> bool>(n: usize, test: F) -> u32
+    requires { (n ≤ 4096) × ((i : ℕ) → i < n → F.pre test i) }
+    ensures { (g : ℕ → Bool) → AnswersAs (F.post test) g n → result ≡ tally n g }
 {
     let mut count: u32 = 0;
-    let mut at: usize = 0;
-    let mut left = (s - 10) * s;
-    while 64 <= left {
-        count += windows_among(m, at, s, 64) as u32;
-        at += 64;
-        left -= 64;
+    for block in 0..n / 64 {
+        count += u32::from(passing_among(64 * block, 64, &test));
     }
-    count + windows_among(m, at, s, left) as u32
-}
-
-// Whether k modules are equal, the one at `at` and those after it.
-fn equal_run(m: &[u8], at: usize, stride: usize, k: usize) -> bool
-    requires { (stride ≤ 64) × ((1 ≤ k) × ((k ≤ 64) × (at + k * stride < length m.now + stride))) }
-    ensures { result ≡ alike m.now at stride k }
-{
-    let mut same = true;
-    let mut i: usize = 1;
-    while i < k {
-        if m[at + i * stride] != m[at] {
-            same = false;
-        }
-        i += 1;
-    }
-    same
-}
-
-// How many of n places from start on, few enough for a byte, begin k equal modules.
-fn runs_among(m: &[u8], start: usize, stride: usize, k: usize, n: usize) -> u8
-    requires { (stride ≤ 64) × ((1 ≤ k) × ((k ≤ 64) × ((n ≤ 64) × (start + n + k * stride ≤ length m.now + stride)))) }
-    ensures { result ≡ alike_from m.now start stride k n }
-{
-    let mut count: u8 = 0;
-    let mut i: usize = 0;
-    while i < n {
-        if equal_run(m, start + i, stride, k) {
-            count += 1;
-        }
-        i += 1;
-    }
-    count
-}
-
-// How many places begin k equal modules of a column.
-fn runs_down(m: &[u8], s: usize, k: usize) -> u32
-    requires { (1 ≤ k) × ((k ≤ s) × ((s ≤ 64) × (s * s ≤ length m.now))) }
-    ensures { result ≡ alike_from m.now 0 s k ((s + 1 - k) * s) }
-{
-    let mut count: u32 = 0;
-    let mut at: usize = 0;
-    let mut left = (s + 1 - k) * s;
-    while 64 <= left {
-        count += runs_among(m, at, s, k, 64) as u32;
-        at += 64;
-        left -= 64;
-    }
-    count + runs_among(m, at, s, k, left) as u32
+    count + u32::from(passing_among(n - n % 64, n % 64, &test))
 }
 
 // What the columns add by their runs and their windows. Of a run of r ≥ 5 modules r - 4 begin five equal ones and r - 5 begin six, and
@@ -140,9 +79,10 @@ fn columns_score(m: &[u8], s: usize) -> u32
     requires { (11 ≤ s) × ((s ≤ 57) × (s * s ≤ length m.now)) }
     ensures { result ≡ paper.lines (lines_from m.now 0 1 s s s) }
 {
-    let fives = runs_down(m, s, 5);
-    let sixes = runs_down(m, s, 6);
-    3 * fives - 2 * sixes + 40 * windows_down(m, s)
+    let fives = passing((s - 4) * s, |at| equal_run::<5>(m, at, s));
+    let sixes = passing((s - 5) * s, |at| equal_run::<6>(m, at, s));
+    let windows = passing((s - 10) * s, |at| finder_like(window::<11>(m, at, s)));
+    3 * fives - 2 * sixes + 40 * windows
 }
 
 // Copies a line.
@@ -150,10 +90,8 @@ fn copy_line(m: &[u8], start: usize, stride: usize, out: &mut [u8])
     requires { (stride ≤ 64) × ((length out.old ≤ 64) × (start + length out.old * stride < length m.now + stride)) }
     ensures { out.new ≡ line m.now start stride (length out.old) }
 {
-    let mut k: usize = 0;
-    while k < out.len() {
-        out[k] = m[start + k * stride];
-        k += 1;
+    for (k, x) in out.iter_mut().enumerate() {
+        *x = m[start + k * stride];
     }
 }
 
@@ -162,27 +100,19 @@ fn turn(m: &[u8], s: usize, out: &mut [u8])
     requires { (s ≤ 64) × ((s * s ≤ length m.now) × (s * s ≤ length out.old)) }
     ensures { out.new ≡ turned s m.now ++ drop (s * s) out.old }
 {
-    let mut i: usize = 0;
-    while i < s {
+    for i in 0..s {
         let a = i * s;
         let e = a + s;
         copy_line(m, i, s, &mut out[a..e]);
-        i += 1;
     }
 }
 
 // What a square of four modules adds.
+#[tactic(auto, unfolding(crate::specs::Lines::square))]
 fn square_score(a: u8, b: u8, c: u8, d: u8) -> u32
     ensures { result ≡ square a b c d }
 {
-    if a == b {
-        if a == c {
-            if a == d {
-                return 3;
-            }
-        }
-    }
-    0
+    if a == b && a == c && a == d { 3 } else { 0 }
 }
 
 // What the squares add whose upper row starts at start.
@@ -190,15 +120,13 @@ fn row_squares(m: &[u8], start: usize, s: usize) -> u32
     requires { (1 ≤ s) × ((s ≤ 64) × (start + s + s ≤ length m.now)) }
     ensures { result ≡ squares_from s m.now start (s - 1) }
 {
-    let mut score: u32 = 0;
-    let mut j: usize = 0;
-    while j < s - 1 {
-        let upper = start + j;
-        let lower = start + s + j;
-        score += square_score(m[upper], m[upper + 1], m[lower], m[lower + 1]);
-        j += 1;
-    }
-    score
+    (0..s - 1)
+        .map(|j| {
+            let upper = start + j;
+            let lower = start + s + j;
+            square_score(m[upper], m[upper + 1], m[lower], m[lower + 1])
+        })
+        .sum()
 }
 
 // What all squares add.
@@ -206,13 +134,7 @@ fn squares_score(m: &[u8], s: usize) -> u32
     requires { (1 ≤ s) × ((s ≤ 64) × (length m.now ≡ s * s)) }
     ensures { result ≡ paper.squares s (paper.rows s m.now) }
 {
-    let mut score: u32 = 0;
-    let mut i: usize = 0;
-    while i < s - 1 {
-        score += row_squares(m, i * s, s);
-        i += 1;
-    }
-    score
+    (0..s - 1).map(|i| row_squares(m, i * s, s)).sum()
 }
 
 // The number of dark modules.
@@ -220,25 +142,17 @@ fn dark(m: &[u8]) -> u32
     requires { (length m.now ≤ 4096) × AtMost 1 m.now }
     ensures { result ≡ paper.dark m.now }
 {
-    let mut count: u32 = 0;
-    let mut k: usize = 0;
-    while k < m.len() {
-        count += m[k] as u32;
-        k += 1;
-    }
-    count
+    m.iter().map(|x| u32::from(*x)).sum()
 }
 
 // What k dark modules of s·s add.
+#[tactic(auto, unfolding(crate::specs::Penalty::share))]
 fn share_score(s: u32, k: u32) -> u32
     requires { (1 ≤ s) × ((s ≤ 64) × (k ≤ 4096)) }
     ensures { result ≡ paper.share s k }
 {
     let area = s * s;
-    if 10 * area <= 20 * k {
-        return (20 * k - 10 * area) / area * 10;
-    }
-    (10 * area - 20 * k) / area * 10
+    (20 * k).abs_diff(10 * area) / area * 10
 }
 
 // The score of a finished symbol of side s.

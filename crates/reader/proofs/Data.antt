@@ -8,18 +8,20 @@ use lib.Seq.{take_at, length-take-le}
 use Rattle.basics.specs.Lists.{up_to}
 use Rattle.basics.proofs.Lists.{map_up_to_same, get_d_map_up_to, length_map_up_to}
 use Rattle.tables.specs.Tables.{Lawful, total, data_count, block_count, block_data, block_start, check_count, block_length, room}
-use Rattle.tables.proofs.Rules.{data_sum}
+use Rattle.tables.specs.Version.{Square}
+use Rattle.tables.proofs.Rules.{data_sum, total_most, data_most}
 use Rattle.code.specs.Code.{Stands}
 use Rattle.blocks.specs.Blocks.{gathered, gathered_all, block_of, data_of}
 use Rattle.blocks.proofs.Cuts.{length_joined}
 use Rattle.blocks.proofs.Order.{sent_once}
 use Rattle.blocks.proofs.Dealing.{length_gathered_all, block_of_gathered}
 use Rattle.parse.specs.Parse.{most_data}
-use Rattle.parse.proofs.Encode.{data_most}
+use Rattle.parse.proofs.Encode.{data_most as data_short}
 use Rattle.scan.specs.Received.{received, codeword, flag, codewords, flags}
 use Rattle.corrector.specs.declared.Counts.{Counts}
+use Rattle.reader.specs.declared.Meta.{Meta}
 use Rattle.reader.specs.Reader.{block_word, block_flags, BlockStands, NoCodeword}
-use Rattle.reader.specs.Steps.{Collected, Standing, wrong_in, lost_in, AllMended, WithinBounds}
+use Rattle.reader.specs.Steps.{FormatRead, Collected, Standing, wrong_in, lost_in, AllMended, WithinBounds}
 
 -- as many codewords and flags as the version has
 pub codewords_long : (v mask : ℕ) (m : List ℕ) → length (codewords v mask m) ≡ total v
@@ -31,11 +33,15 @@ unfolding flags
 flags_long v mask m = length_map_up_to _ (total v)
 
 -- what was written to the front of a buffer
-pub front_long : (n : ℕ) (xs ys zs : List ℕ) → xs ≡ ys → length ys ≡ n → n ≤ length (xs ++ zs)
-front_long n xs ys zs e l = rw (e, length-append ys zs) (omega arith)
-
 pub front_is : (n : ℕ) (xs ys zs : List ℕ) → xs ≡ ys → length ys ≡ n → take n (xs ++ zs) ≡ ys
 front_is n xs ys zs e l = rw e (take_at ys zs n l)
+
+-- the level that was read is one of the version's
+pub lawful_read : (v : ℕ) (m : List ℕ) (meta : Meta) → Square (length m) v → FormatRead v m meta → Lawful v meta.level
+lawful_read v m meta s f = record { least = s.least; most = s.most; levels = omega (arith, f.stands.levels) }
+
+-- that a version's codewords have room, and how many they are
+pub ruleset rooms = (total_most, data_most, lawful_read, length-take-le, codewords_long, flags_long, length-append, take_at)
 
 module _ (v level : ℕ) (lawful : Lawful v level) where
   -- a block that was gathered from a list of what stands at each place
@@ -91,4 +97,4 @@ data_length v level bs blocks lawful h =
 -- so the stream reads no more than a version has
 pub within_long : (v level : ℕ) (bs held : List ℕ) (s : Counts) → Lawful v level → WithinBounds v level bs held s → length held ≤ most_data v
 within_long v level bs held s lawful w =
-    rw (w.data_is, data_length v level bs w.blocks lawful (λ b h. (w.stand b h).long)) (data_most v level lawful)
+    rw (w.data_is, data_length v level bs w.blocks lawful (λ b h. (w.stand b h).long)) (data_short v level lawful)

@@ -2,8 +2,6 @@
 use mathlib.Core.Logic.{inr}
 use mathlib.Core.List.{List}
 use Prim.Native.Nat.{ℕ}
-use native.Mathlib.Omega.{arith}
-use Rattle.tables.specs.Tables.{Lawful}
 use Rattle.scan.specs.Received.{received}
 use Rattle.reader.specs.Reader.{Answer, First, Reads, Above, OtherVersion, NoFormat, TwoFormats, NoCodeword, Formatted, AllStand}
 use Rattle.reader.specs.Theorems.{PastSize, PastVersions, PastFormats}
@@ -28,9 +26,3 @@ module _ (m : List ℕ) (payload_room list_room : ℕ) where
   then_named v level mask a n f =
       then_plain v a n.plain
       (inr (λ z. z n.copy level mask n.stands, inr (n.one, record { copy = n.copy; level = level; mask = mask; stands = n.stands; then = f })))
-
-  -- and the level is one of the version's
-  pub past_lawful : (v level mask : ℕ) → PastFormats m payload_room list_room v level mask → Lawful v level
-  past_lawful v level mask n =
-      let s = n.plain.sized.square in
-      record { least = s.least; most = s.most; levels = omega (arith, n.stands.levels) }

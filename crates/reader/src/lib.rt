@@ -194,6 +194,7 @@ fn find_format(m: &[u8], v: usize) -> Result<Meta, Refusal>
 }
 
 // The codewords of a matrix and their flags, block after block.
+#[tactic(auto, using(crate::proofs::Data::rooms))]
 fn collect(m: &[u8], v: usize, level: usize, mask: usize, blocks: &mut [u8], lost: &mut [u8])
     requires lawful { Lawful v level × (mask < 8) }
     requires m_len { (length m.now ≡ side v * side v) × AtMost 2 m.now }
@@ -231,6 +232,7 @@ fn mend_in(
 }
 
 // The same, with room of its own.
+#[tactic(auto, using(crate::proofs::Data::rooms))]
 fn mend(m: &[u8], v: usize, level: usize, mask: usize, data: &mut [u8]) -> Result<Counts, Refusal>
     requires lawful { Lawful v level × (mask < 8) }
     requires m_len { (length m.now ≡ side v * side v) × (AtMost 2 m.now × (length «data».old ≡ data_count v level)) }
@@ -283,6 +285,7 @@ fn finish(
 }
 
 // The answer that a matrix gets; its payload and its segments at the fronts of the buffers. A refusal leaves both as they were.
+#[tactic(auto, using(crate::proofs::Data::rooms))]
 pub fn read(m: &[u8], payload: &mut [u8], list: &mut [u16]) -> Result<Reading, Refusal>
     ensures { Answers m.now payload.old list.old result payload.new list.new }
 {

@@ -5,8 +5,7 @@ use Prim.Native.Nat.{ℕ, suc, ◌+◌, ◌-◌, ◌*◌, ◌^◌, ◌≤◌, �
 use native.Mathlib.Nat.{pow-suc}
 use native.Mathlib.Omega.{arith}
 use lib.Dec.{eqb, ltb}
-use lib.ListN.{length, get_or, drop, length-drop, drop_of_length-le}
-use lib.Pow.{pow_mono}
+use lib.ListN.{length, get_or, drop, drop_of_length-le}
 use lib.Seq.{drop-cons}
 use borrow.Author.Tests.{le-leb}
 use Rattle.basics.specs.Bits.{low_first}
@@ -31,10 +30,6 @@ unfolding low_first
 bits_lt f h [] = omega arith
 bits_lt f h (x ∷ xs) = rw (pow-suc 2 (length xs)) (omega (arith, h x, bits_lt f h xs))
 
-pub copied_lt : (m places : List ℕ) → copied m places < 2 ^ length places
-unfolding copied
-copied_lt m places = bits_lt (λ p. one (eqb (get_or m p 0) 1)) (λ p. one_le (eqb (get_or m p 0) 1)) places
-
 pub readable_lt : (m places : List ℕ) → readable m places < 2 ^ length places
 unfolding readable
 readable_lt m places = bits_lt (λ p. one (ltb (get_or m p 0) 2)) (λ p. one_le (ltb (get_or m p 0) 2)) places
@@ -44,12 +39,6 @@ readable_lt m places = bits_lt (λ p. one (ltb (get_or m p 0) 2)) (λ p. one_le 
 pub copy_none : (m places : List ℕ) (n : ℕ) → length places ≤ n → CopyRead m (drop n places) (record { bits = 0; readable = 0 })
 unfolding copied readable low_first
 copy_none m places n h = rw (drop_of_length-le places h) (record { bits = refl; can = refl })
-
-pub copy_small : (m places : List ℕ) (b : ℕ) (c : Copy) → length places ≤ 18 → CopyRead m (drop b places) c → (c.bits < 2 ^ 18) × (c.readable < 2 ^ 18)
-copy_small m places b c h r =
-    let short : length (drop b places) ≤ 18 = simp length-drop (omega arith) in
-    let few : 2 ^ length (drop b places) ≤ 2 ^ 18 = pow_mono {i = length (drop b places)} {j = 18} short in
-    (omega (arith, r.bits, copied_lt m (drop b places)), omega (arith, r.can, readable_lt m (drop b places)))
 
 pub copy_more : (m places : List ℕ) (b p : ℕ) (c r : Copy) → 0 < b → b ≤ length places → CopyRead m (drop b places) c → p ≡ get_or places (b - 1) 0
     → (r.bits ≡ one (eqb (get_or m p 0) 1) + 2 * c.bits) × (r.readable ≡ one (ltb (get_or m p 0) 2) + 2 * c.readable) → CopyRead m (drop (b - 1) places) r

@@ -1,25 +1,29 @@
 -- What a scan of a matrix adds with each module: to the number and the flag of a codeword, and to the data modules met so far.
 use mathlib.Core.Path.{◌≡◌, refl, sym, ap, ◌∙◌}
-use mathlib.Core.Bool.{Bool, true, false, cond, ◌||◌}
+use mathlib.Core.Bool.{Bool, true, false, cond, not, ◌&&◌, ◌||◌}
+use mathlib.Core.Logic.{by_cases}
+use native.Mathlib.Decide.{ℕ_discrete}
+use Rattle.modules.proofs.Kept.{not_both}
 use mathlib.Core.List.{List, [], ◌∷◌, ◌++◌, map}
 use Prim.Native.Nat.{ℕ, zero, suc, ◌+◌, ◌-◌, ◌*◌, ◌/◌, ◌%◌, ◌≤◌, ◌<◌}
 use native.Mathlib.Nat.{mul-add-div_right, mul-add-mod_self_right, div-eq_of_lt, mod-eq_of_lt, mul-le-mul_right, add-zero, le_of_lt, add-mul, mul_assoc, mul_left_comm}
 use native.Mathlib.Numerals.{add-one}
 use native.Mathlib.Omega.{arith}
-use lib.Dec.{eqb, leb, leb→le}
-use Rattle.basics.proofs.Test.{at}
-use borrow.Author.Tests.{eq-eqb}
-use Rattle.modules.proofs.Kept.{not_both}
-use lib.ListN.{length, get_or, set, take, drop, length-take}
-use lib.Seq.{take-suc, take-suc-set, get_or-take, get_or-drop}
+use lib.Dec.{eqb}
+use borrow.Author.Tests.{eq-eqb, ne_eqb}
+use lib.ListN.{length, get_or, set, take}
+use lib.Seq.{take-suc, take-suc-set}
 use Rattle.basics.specs.Bits.{number, number_after}
 use Rattle.basics.specs.Lists.{up_to, keep, any, AtMost}
 use Rattle.basics.specs.Sums.{one}
 use Rattle.basics.proofs.Bits.{number_after_append}
 use Rattle.basics.proofs.Lists.{map_append, map_up_to_suc}
-use Rattle.tables.specs.Tables.{side, last_version, most_modules}
+use Rattle.tables.specs.Tables.{side}
 use Rattle.modules.specs.Modules.{walk, pair_column, is_data}
-use Rattle.scan.specs.Scan.{plain, passed, Walked}
+use Rattle.std.proofs.Common.{Option, Some, None}
+use Rattle.std.specs.Option.{unwrap_or, is_some}
+use Rattle.scan.specs.Received.{eight, flag, codeword}
+use Rattle.scan.specs.Scan.{plain, passed, EightRead, Walked}
 
 -- ---- a codeword's modules
 
@@ -36,11 +40,16 @@ unfolding any
 any_append test [] ys = refl
 any_append test (x ∷ xs) ys = rw (any_append test xs ys) (sym (or_assoc (test x) (any test xs) (any test ys)))
 
-one_or : (a b : Bool) → one (a || (b || false)) ≡ cond b 1 (one a)
-one_or true true = refl
-one_or true false = refl
-one_or false true = refl
-one_or false false = refl
+none_or : (a : Bool) (x : ℕ) → not (a || (eqb 2 x || false)) ≡ not a && not (eqb x 2)
+none_or true x = refl
+none_or false x =
+    by_cases (ℕ_discrete x 2) (λ (e : x ≡ 2). rw e) (λ (e : x ≡ 2 → ⊥). rw (ne_eqb x 2 e, ne_eqb 2 x (λ k. e (sym k))))
+
+-- one module more, and all can be read
+pub readable_more : (bs : List ℕ) (t : ℕ) → t < length bs → not (any (eqb 2) (take t bs)) && not (eqb (get_or bs t 0) 2) ≡ not (any (eqb 2) (take (t + 1) bs))
+unfolding any
+readable_more bs t h =
+    rw (add-one, take-suc bs t 0 h, any_append (eqb 2) (take t bs) (get_or bs t 0 ∷ [])) (sym (none_or (any (eqb 2) (take t bs)) (get_or bs t 0)))
 
 true_or : (a b : Bool) → a ≡ true → a || b ≡ false → ⊥
 true_or true b p q = not_both (sym q)
@@ -49,11 +58,6 @@ true_or false b p q = not_both p
 later : (a b : Bool) → a || b ≡ false → b ≡ false
 later true b e = absurd (not_both (sym e))
 later false b e = e
-
-pub flag_more : (bs : List ℕ) (t : ℕ) → t < length bs → one (any (eqb 2) (take (t + 1) bs)) ≡ cond (eqb 2 (get_or bs t 0)) 1 (one (any (eqb 2) (take t bs)))
-unfolding any
-flag_more bs t h =
-    rw (add-one, take-suc bs t 0 h, any_append (eqb 2) (take t bs) (get_or bs t 0 ∷ [])) (one_or (any (eqb 2) (take t bs)) (eqb 2 (get_or bs t 0)))
 
 -- modules that can all be read are bits
 pub all_read : (bs : List ℕ) → AtMost 2 bs → any (eqb 2) bs ≡ false → AtMost 1 bs
@@ -65,10 +69,18 @@ all_read (x ∷ xs) h e zero l =
 all_read (x ∷ xs) h e (suc k) l =
     all_read xs (λ i r. h (suc i) (omega arith)) (later (eqb 2 x) (any (eqb 2) xs) e) k (omega arith)
 
-pub at_most_part : (n : ℕ) (xs : List ℕ) (a k : ℕ) → AtMost n xs → a + k ≤ length xs → AtMost n (take k (drop a xs))
-at_most_part n xs a k h l i r =
-    let few : i < k = omega (arith, rw (length-take k (drop a xs)) at r) in
-    rw (get_or-take k (drop a xs) i 0 few, get_or-drop a xs i 0) (h (a + i) (omega arith))
+-- what is written of a codeword that was read, and of its flag
+pub word_of : (bs : List ℕ) (q : ℕ) (r : Option ℕ) → EightRead (eight bs q) r → unwrap_or r 0 ≡ codeword bs q
+unfolding codeword flag
+word_of bs q (Some x) e = rw e.0 e.1
+word_of bs q None e = rw e
+
+pub flag_of : (bs : List ℕ) (q : ℕ) (r : Option ℕ) (none : Bool) → is_some r ≡ not none → EightRead (eight bs q) r → one none ≡ flag bs q
+unfolding flag
+flag_of bs q (Some x) false h e = rw e.0
+flag_of bs q (Some x) true h e = absurd (cc)
+flag_of bs q None true h e = rw e
+flag_of bs q None false h e = absurd (cc)
 
 -- ---- rows and columns
 
@@ -83,14 +95,19 @@ inside s i j hi hj =
     let m : suc i * s ≤ s * s = mul-le-mul_right s hi in
     omega (arith, m)
 
-pub side_most : (v : ℕ) → v ≤ last_version → side v * side v ≤ most_modules
-side_most v h = leb→le _ _ (at 11 (λ v. leb (side v * side v) most_modules) tt v (omega arith))
-
 -- step r of column pair q
 pub walk_step : (s q r : ℕ) → r < 2 * s
     → walk s (q * (2 * s) + r) ≡ cond (eqb (q % 2) 0) (s - 1 - r / 2) (r / 2) * s + (pair_column s q - r % 2)
 unfolding walk
 walk_step s q r h = rw (row_of (2 * s) q r h, column_of (2 * s) q r h)
+
+-- in row t of a pair, its right column or, for j = 1, the one to the left
+pub walk_row : (s q t j row right column : ℕ) → t < s → j < 2 → row ≡ cond (eqb (q % 2) 0) (s - 1 - t) t → right ≡ pair_column s q → column ≡ right - j
+    → row * s + column ≡ walk s (q * (2 * s) + (2 * t + j))
+walk_row s q t j row right column ht hj e f g =
+    let half : (2 * t + j) / 2 ≡ t = omega arith in
+    let low : (2 * t + j) % 2 ≡ j = omega arith in
+    rw (walk_step s q (2 * t + j) (omega arith), half, low, g, f, e)
 
 -- ---- the data modules met so far
 

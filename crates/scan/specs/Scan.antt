@@ -1,14 +1,11 @@
 -- What each pass over a matrix hands on.
-use Rattle.std.specs.Prelude.{◌≡◌, cond, List, map, ℕ, ◌+◌, ◌*◌, ◌/◌, ◌%◌, ◌≤◌, ◌<◌, eqb, length, get_or, take, drop}
+use Rattle.std.specs.Prelude.{◌≡◌, true, false, cond, Option, Some, None, List, map, ℕ, ◌*◌, ◌/◌, ◌%◌, ◌≤◌, ◌<◌, eqb, length, get_or, take}
 use Rattle.std.specs.Int.Bits.{bit_xor}
 use Rattle.basics.specs.Bits.{bit_of, number}
 use Rattle.basics.specs.Lists.{up_to, keep, any}
-use Rattle.basics.specs.Sums.{one}
 use Rattle.tables.specs.Tables.{side, last_version, most_side}
 use Rattle.modules.specs.Modules.{walk, is_data}
-use Rattle.scan.specs.declared.At.{At}
 use Rattle.scan.specs.declared.Copy.{Copy}
-use Rattle.scan.specs.declared.Packed.{Packed}
 use Rattle.scan.specs.Received.{copied, readable}
 
 -- a copy of a word as it was read at its places, and which of its bits could be read
@@ -25,20 +22,14 @@ pub record DataMap (v : ℕ) (kinds : List ℕ) : Type 0 where
 unfoldable pub plain : (x row j : ℕ) → ℕ
 plain x row j = cond (eqb x 2) 2 (bit_xor x (bit_of row j))
 
--- the row and the column of the module that step r of column pair q meets
-pub record Meets (s q r : ℕ) (a : At) : Type 0 where
-  pub row_inside : a.row < s
-  pub column_inside : a.column < s
-  pub place : a.row * s + a.column ≡ walk s (q * (2 * s) + r)
-
 -- the data modules that the first k steps of the walk meet, the flips of the rows taken off
 unfoldable pub passed : (v : ℕ) (rows m : List ℕ) (k : ℕ) → List ℕ
 passed v rows m k = map (λ p. plain (get_or m p 0) (get_or rows (p / side v) 0) (p % side v)) (keep (is_data v) (map (walk (side v)) (up_to k)))
 
--- eight modules that stand from a place on, as a codeword: its flag, and its number where it can be read
-pub record EightRead (bs : List ℕ) (at : ℕ) (e : Packed) : Type 0 where
-  pub flag : e.flag ≡ one (any (eqb 2) (take 8 (drop at bs)))
-  pub value : e.value ≡ cond (eqb (one (any (eqb 2) (take 8 (drop at bs)))) 1) 0 (number (take 8 (drop at bs)))
+-- eight modules as a codeword: none where one of them could not be read, and else their number
+abbrev pub EightRead : (bs : List ℕ) → Option ℕ → Type 0
+EightRead bs (Some x) = (any (eqb 2) bs ≡ false) × (x ≡ number bs)
+EightRead bs None = any (eqb 2) bs ≡ true
 
 -- the first n entries of `out` are the data modules that the first k steps meet
 pub record Walked (v : ℕ) (rows m : List ℕ) (k n : ℕ) (out : List ℕ) : Type 0 where

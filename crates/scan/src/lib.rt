@@ -1,14 +1,15 @@
 // What a matrix holds, as it was read: the copies of the words, and the codewords with their flags. A module is 0 light, 1 dark, 2 unreadable.
 #![tactic(auto)]
 
-ghost use Rattle.std.specs.Prelude.{◌≡◌, map, ℕ, ◌+◌, ◌-◌, ◌*◌, ◌^◌, ◌≤◌, ◌<◌, eqb, ltb, length, get_or, take};
+ghost use Rattle.std.specs.Prelude.{◌≡◌, List, map, ℕ, ◌+◌, ◌-◌, ◌*◌, ◌^◌, ◌≤◌, ◌<◌, eqb, ltb, length, get_or, take};
 ghost use Rattle.basics.specs.Sums.{one};
+ghost use Rattle.basics.specs.Build.{build};
 ghost use Rattle.basics.specs.Lists.{up_to, AtMost};
 ghost use Rattle.tables.specs.Tables.{side as side_of, total as total_of, last_version, most_side};
-ghost use Rattle.modules.specs.Modules.{format_places, version_places};
-ghost use Rattle.modules.specs.Kinds.{row_flips};
+ghost use Rattle.modules.specs.Modules.{format_places, version_places, walk};
+ghost use Rattle.modules.specs.Kinds.{row_flips, Gives};
 ghost use Rattle.scan.specs.Received.{flag as flag_of, codeword, received, codewords as codewords_of, flags as flags_of};
-ghost use Rattle.scan.specs.Scan.{CopyRead, Meets, Ready, Walked, plain, EightRead};
+ghost use Rattle.scan.specs.Scan.{CopyRead, Ready, Walked, plain, EightRead};
 
 use tables::{MOST_MODULES, MOST_SIDE};
 
@@ -32,22 +33,9 @@ pub struct Copy {
 
 // A place of the matrix.
 #[derive(Clone, Copy)]
-pub struct At {
-    pub row: usize,
-    pub column: usize,
-}
-
-// A codeword, and 1 where it could not be read.
-#[derive(Clone, Copy)]
-pub struct Packed {
-    pub value: u8,
-    pub flag: u8,
-}
-
-fn wide(x: u8) -> u32
-    ensures { result ≡ x }
-{
-    x as u32
+struct At {
+    row: usize,
+    column: usize,
 }
 
 // A module with the flips of its row taken off: bit j for column j.
@@ -56,51 +44,25 @@ fn unmask(x: u8, row: u64, j: usize) -> u8
     ensures { result ≡ plain x row j }
 {
     if x == UNREADABLE {
-        return UNREADABLE;
-    }
-    x ^ (((row >> j) % 2) as u8)
-}
-
-// The row and the column of the module that step r of column pair q meets.
-fn step(s: usize, q: usize, r: usize) -> At
-    requires { (s ≤ 57) × ((2 * q + 2 < s) × (r < 2 * s)) }
-    ensures { Meets s q r result }
-{
-    let c = s - 1 - 2 * q;
-    let right = if c <= 6 { c - 1 } else { c };
-    let h = r / 2;
-    let row = if q % 2 == 0 { s - 1 - h } else { h };
-    At {
-        row,
-        column: right - r % 2,
+        UNREADABLE
+    } else {
+        x ^ (((row >> j) % 2) as u8)
     }
 }
 
-// Step r of column pair q: a data module is put behind the first n. How many there are then.
-fn meet(
-    m: &[u8],
-    kinds: &[u8],
-    rows: &[u64],
-    v: usize,
-    q: usize,
-    r: usize,
-    out: &mut [u8],
-    n: usize,
-) -> usize
-    requires ready { Ready v m.now kinds.now rows.now out.old × ((2 * q + 2 < side_of v) × (r < 2 * side_of v)) }
-    requires walked { Walked v rows.now m.now (q * (2 * side_of v) + r) n out.old }
-    ensures { (length out.new ≡ length out.old) × Walked v rows.now m.now (q * (2 * side_of v) + r + 1) result out.new }
+// A module is met: a data module is put behind the first n. How many there are then.
+fn meet(m: &[u8], kinds: &[u8], rows: &[u64], v: usize, at: At, out: &mut [u8], n: usize) -> usize
+    requires ready { Ready v m.now kinds.now rows.now out.old × ((at.row < side_of v) × (at.column < side_of v)) }
+    requires room { n < length out.old }
+    ensures long { length out.new ≡ length out.old }
+    ensures walked { (k : ℕ) → at.row * side_of v + at.column ≡ walk (side_of v) k → Walked v rows.now m.now k n out.old → Walked v rows.now m.now (k + 1) result out.new }
 {
-    let s = tables::side(v);
-    let a = step(s, q, r);
-    let i = a.row;
-    let j = a.column;
-    let p = i * s + j;
-    if kinds[p] == DATA {
-        out[n] = unmask(m[p], rows[i], j);
-        return n + 1;
+    let p = at.row * tables::side(v) + at.column;
+    if kinds[p] != DATA {
+        return n;
     }
-    n
+    out[n] = unmask(m[p], rows[at.row], at.column);
+    n + 1
 }
 
 // The data modules of column pair q, put behind the first n. How many there are then.
@@ -110,11 +72,13 @@ fn pair(m: &[u8], kinds: &[u8], rows: &[u64], v: usize, q: usize, out: &mut [u8]
     ensures { (length out.new ≡ length out.old) × Walked v rows.now m.now (q * (2 * side_of v) + 2 * side_of v) result out.new }
 {
     let s = tables::side(v);
-    let mut count: usize = n;
-    let mut r: usize = 0;
-    while r < 2 * s {
-        count = meet(m, kinds, rows, v, q, r, out, count);
-        r += 1;
+    let right = modules::pair_column(s, q);
+    let mut count = n;
+    for t in 0..s {
+        let row = modules::pair_row(s, q, t);
+        for column in [right, right - 1] {
+            count = meet(m, kinds, rows, v, At { row, column }, out, count);
+        }
     }
     count
 }
@@ -125,27 +89,19 @@ fn walk(m: &[u8], kinds: &[u8], rows: &[u64], v: usize, out: &mut [u8]) -> usize
     ensures { (length out.new ≡ length out.old) × Walked v rows.now m.now (side_of v * (side_of v - 1)) result out.new }
 {
     let s = tables::side(v);
-    let mut n: usize = 0;
-    let mut q: usize = 0;
-    while 2 * q + 2 < s {
+    let mut n = 0;
+    for q in 0..(s - 1) / 2 {
         n = pair(m, kinds, rows, v, q, out, n);
-        q += 1;
     }
     n
 }
 
-// Where a mask flips each of the first s rows.
-fn flip_rows(mask: usize, s: usize) -> [u64; MOST_SIDE]
-    requires { (mask < 8) × (s ≤ most_side) }
-    ensures { (length result ≡ most_side) × ((i : ℕ) → i < s → get_or result i 0 ≡ row_flips mask i) }
+// Where a mask flips each row.
+fn flip_rows(mask: usize) -> [u64; MOST_SIDE]
+    requires { mask < 8 }
+    ensures { result ≡ build (row_flips mask) most_side }
 {
-    let mut rows = [0u64; MOST_SIDE];
-    let mut i: usize = 0;
-    while i < s {
-        rows[i] = modules::row_flips(mask, i);
-        i += 1;
-    }
-    rows
+    std::array::from_fn(|i| modules::row_flips(mask, i))
 }
 
 // The data modules in their order with the mask taken off, at the front of `out`. How many there are.
@@ -156,7 +112,7 @@ fn gather(m: &[u8], v: usize, mask: usize, out: &mut [u8]) -> usize
 {
     let mut kinds = [0u8; MOST_MODULES];
     modules::kinds(v, &mut kinds);
-    let rows = flip_rows(mask, tables::side(v));
+    let rows = flip_rows(mask);
     walk(m, &kinds, &rows, v, out)
 }
 
@@ -165,51 +121,35 @@ fn below(c: Copy, x: u8) -> Copy
     requires { (c.bits < 2 ^ 18) × (c.readable < 2 ^ 18) }
     ensures { (result.bits ≡ one (eqb x 1) + 2 * c.bits) × (result.readable ≡ one (ltb x 2) + 2 * c.readable) }
 {
-    let bit: u32 = if x == 1 { 1 } else { 0 };
-    let can: u32 = if x < UNREADABLE { 1 } else { 0 };
     Copy {
-        bits: bit + 2 * c.bits,
-        readable: can + 2 * c.readable,
+        bits: u32::from(x == 1) + 2 * c.bits,
+        readable: u32::from(x < UNREADABLE) + 2 * c.readable,
     }
 }
 
-// Eight modules from a place on as a codeword.
-fn eight(bits: &[u8], at: usize) -> Packed
-    requires { AtMost 2 bits.now × (at + 8 ≤ length bits.now) }
-    ensures { EightRead bits.now at result }
+// Eight modules as a codeword, none where one of them could not be read. All are looked at, so that many codewords are made at once.
+fn eight(bits: &[u8]) -> Option<u8>
+    requires { AtMost 2 bits.now × (length bits.now ≡ 8) }
+    ensures { EightRead bits.now result }
 {
     let mut x: u32 = 0;
-    let mut flag: u8 = 0;
-    let mut t: usize = 0;
-    while t < 8 {
-        let b = bits[at + t];
-        x = x * 2 + wide(b);
-        if b == UNREADABLE {
-            flag = 1;
-        }
-        t += 1;
+    let mut readable = true;
+    for b in bits {
+        x = x * 2 + u32::from(*b);
+        readable &= *b != UNREADABLE;
     }
-    if flag == 1 {
-        return Packed { value: 0, flag };
-    }
-    Packed {
-        value: x as u8,
-        flag,
-    }
+    if readable { Some(x as u8) } else { None }
 }
 
-// The codewords that modules in their order make, and their flags.
+// The codewords that modules in their order make, 0 where one could not be read, and their flags.
 fn pack(bits: &[u8], words: &mut [u8], flags: &mut [u8])
     requires { AtMost 2 bits.now × ((length words.old ≤ 346) × ((8 * length words.old ≤ length bits.now) × (length flags.old ≡ length words.old))) }
     ensures { (words.new ≡ map (codeword bits.now) (up_to (length words.old))) × (flags.new ≡ map (flag_of bits.now) (up_to (length words.old))) }
 {
-    let total = words.len();
-    let mut q: usize = 0;
-    while q < total {
-        let c = eight(bits, 8 * q);
-        words[q] = c.value;
-        flags[q] = c.flag;
-        q += 1;
+    for q in 0..words.len() {
+        let codeword = eight(&bits[8 * q..8 * q + 8]);
+        words[q] = codeword.unwrap_or(0);
+        flags[q] = u8::from(codeword.is_none());
     }
 }
 
@@ -225,22 +165,29 @@ pub fn codewords(m: &[u8], v: usize, mask: usize, words: &mut [u8], flags: &mut 
     pack(&bits[..n], words, flags);
 }
 
+// A copy of a word of so many bits, whose places are told one by one.
+fn copy_at<P: Fn(usize) -> usize>(m: &[u8], bits: usize, place: P) -> Copy
+    requires few { bits ≤ 18 }
+    requires callable { (b : ℕ) → b < bits → P.pre place b }
+    requires within { (b p : ℕ) → b < bits → P.post place b p → p < length m.now }
+    ensures { (places : List ℕ) → length places ≡ bits → Gives (P.post place) bits (λ b. get_or places b 0) → CopyRead m.now places result }
+{
+    let mut copy = Copy {
+        bits: 0,
+        readable: 0,
+    };
+    for b in (0..bits).rev() {
+        copy = below(copy, m[place(b)]);
+    }
+    copy
+}
+
 // A copy of the format word.
 pub fn format_copy(m: &[u8], v: usize, copy: usize) -> Copy
     requires { (1 ≤ v) × ((v ≤ last_version) × ((copy < 2) × (length m.now ≡ side_of v * side_of v))) }
     ensures { CopyRead m.now (format_places v copy) result }
 {
-    let mut read = Copy {
-        bits: 0,
-        readable: 0,
-    };
-    let mut b: usize = FORMAT_BITS;
-    while 0 < b {
-        b -= 1;
-        let p = modules::format_place(v, copy, b);
-        read = below(read, m[p]);
-    }
-    read
+    copy_at(m, FORMAT_BITS, |b| modules::format_place(v, copy, b))
 }
 
 // A copy of the version word.
@@ -248,15 +195,5 @@ pub fn version_copy(m: &[u8], v: usize, copy: usize) -> Copy
     requires { (7 ≤ v) × ((v ≤ last_version) × ((copy < 2) × (length m.now ≡ side_of v * side_of v))) }
     ensures { CopyRead m.now (version_places v copy) result }
 {
-    let mut read = Copy {
-        bits: 0,
-        readable: 0,
-    };
-    let mut b: usize = VERSION_BITS;
-    while 0 < b {
-        b -= 1;
-        let p = modules::version_place(v, copy, b);
-        read = below(read, m[p]);
-    }
-    read
+    copy_at(m, VERSION_BITS, |b| modules::version_place(v, copy, b))
 }

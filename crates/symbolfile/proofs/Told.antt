@@ -11,8 +11,7 @@ use Rattle.part.proofs.Laws.{lawful_fills}
 use Rattle.promises.proofs.Lawful.{reads_lawful}
 use Rattle.tables.specs.Tables.{most_payload, most_list}
 use Rattle.reader.specs.declared.Reading.{Reading}
-use Rattle.reader.specs.declared.Answered.{Answered}
-use Rattle.reader.specs.declared.Answered.TheVariants.{Read as Told, Refused as Denied}
+use Rattle.std.specs.Prelude.{Result, Ok}
 use Rattle.reader.specs.Reader.{Answer, Read, Refused, Reads, payload_after, list_after}
 use Rattle.reader.specs.Answers.{Answers, answered_of}
 use Rattle.text.specs.Text.{reading_text}
@@ -56,10 +55,10 @@ module _ (m p l p' l' : List ℕ) (lp : length p ≡ most_payload) (ll : length 
         same_text = rw (tp, tl);
       }
 
-  pub told : (r : Answered) (x : Reading) → r ≡ Told x → Answers m p l r p' l' → Shown m x p' l'
-  told r x e a = by a.answer a.reads (sym a.says ∙ e) a.payload_memory a.list_memory
+  pub told : (x : Reading) → Answers m p l (Ok x) p' l' → Shown m x p' l'
+  told x a = by a.answer a.reads (sym a.says) a.payload_memory a.list_memory
     where
-      by : (w : Answer) → Reads m (length p) (length l) w → answered_of w ≡ Told x → p' ≡ payload_after w p → l' ≡ list_after w l → Shown m x p' l'
+      by : (w : Answer) → Reads m (length p) (length l) w → ◌≡◌ {A = Result Reading ℕ} (answered_of w) (Ok x) → p' ≡ payload_after w p → l' ≡ list_after w l → Shown m x p' l'
       by (Read v level mask bytes numbers t e) q s ep el =
           let same : record {
             version = v;
@@ -71,12 +70,4 @@ module _ (m p l p' l' : List ℕ) (lp : length p ≡ most_payload) (ll : length 
             unreadable = e;
           } ≡ x = cc in
           subst (λ (y : Reading). Shown m y p' l') same (shown v level mask bytes numbers t e q ep el)
-      by (Refused n) q s ep el = let z : ◌≡◌ {A = ℕ} 0 1 = cc in absurd (omega arith)
-
-pub denied : (m p l p' l' : List ℕ) (r : Answered) (n : ℕ) → r ≡ Denied n → length p ≡ most_payload → length l ≡ most_list → Answers m p l r p' l'
-    → Reads m most_payload most_list (Refused n)
-denied m p l p' l' r n e lp ll a = by a.answer (rw (lp, ll) at a.reads) (sym a.says ∙ e)
-  where
-    by : (w : Answer) → Reads m most_payload most_list w → answered_of w ≡ Denied n → Reads m most_payload most_list (Refused n)
-    by (Read v level mask bytes numbers t e) q s = let z : ◌≡◌ {A = ℕ} 0 1 = cc in absurd (omega arith)
-    by (Refused k) q s = let z : k ≡ n = cc in rw z at q
+      by (Refused n) q s ep el = absurd cc

@@ -1,44 +1,29 @@
 // The text that the program prints for a symbol file.
 #![tactic(auto)]
 
-ghost use Rattle.std.specs.Prelude.{◌≡◌, ◌≤◌, length};
+ghost use Rattle.std.specs.Prelude.{◌≡◌, ◌≤◌, length, MatchOption};
 ghost use Rattle.text.specs.Text.{most_text};
-ghost use Rattle.symbolfile.specs.SymbolFile.{whole, Closed, Holds, SymbolPrinted, FilePrinted};
+ghost use Rattle.symbolfile.specs.SymbolFile.{opened, Symbol, NoSymbol, Closed, Holds, SymbolPrinted, FilePrinted};
 ghost use Rattle.tables.specs.Tables.{most_payload, most_list};
 
-use reader::Answered;
 use tables::{MOST_LIST, MOST_PAYLOAD};
 
-// The bytes in front of the modules: mark, version, side.
-const HEADER: usize = 6;
-
-// The refusal of a file that is no symbol file.
+// The refusal of a file that is no symbol file, as the number that is printed.
 const NO_SYMBOL: usize = 17;
 
-// Whether a file has the mark, the version and the length that its side asks for.
-fn is_whole(file: &[u8]) -> bool
-    ensures { result ≡ whole file.now }
+// The modules in a file, if it has the mark, the version and the length that its side asks for.
+fn modules_of(file: &[u8]) -> Option<&[u8]>
+    ensures { MatchOption result (opened (Holds file.now) ≡ NoSymbol) (λ modules. opened (Holds file.now) ≡ Symbol modules.now) }
 {
-    if file.len() < HEADER {
-        return false;
+    let [b'K', b'Q', b'S', 0, 1, side, modules @ ..] = file else {
+        return None;
+    };
+    let side = usize::from(*side);
+    if modules.len() == side * side {
+        Some(modules)
+    } else {
+        None
     }
-    if file[0] != b'K' {
-        return false;
-    }
-    if file[1] != b'Q' {
-        return false;
-    }
-    if file[2] != b'S' {
-        return false;
-    }
-    if file[3] != 0 {
-        return false;
-    }
-    if file[4] != 1 {
-        return false;
-    }
-    let side = file[5] as usize;
-    file.len() == HEADER + side * side
 }
 
 // The text of a file that cannot be opened or read.
@@ -55,21 +40,17 @@ fn print_answer(modules: &[u8], payload: &mut [u8], list: &mut [u16], out: &mut 
     ensures { SymbolPrinted modules.now out.old result out.new }
 {
     match reader::read(modules, payload, list) {
-        Answered::Refused(n) => text::print_refusal(out, n as usize),
-        Answered::Read(r) => {
-            let held = r.payload;
-            let pairs = 2 * r.segments;
-            text::print_reading(
-                out,
-                r.version,
-                r.level,
-                r.mask,
-                &payload[..held],
-                &list[..pairs],
-                r.differing,
-                r.unreadable,
-            )
-        }
+        Ok(r) => text::print_reading(
+            out,
+            r.version,
+            r.level,
+            r.mask,
+            &payload[..r.payload],
+            &list[..2 * r.segments],
+            r.differing,
+            r.unreadable,
+        ),
+        Err(refusal) => text::print_refusal(out, usize::from(refusal.number())),
     }
 }
 
@@ -78,11 +59,10 @@ pub fn answer(file: &[u8], out: &mut [u8]) -> usize
     requires { most_text ≤ length out.old }
     ensures { FilePrinted (Holds file.now) out.old result out.new }
 {
-    if !is_whole(file) {
+    let Some(modules) = modules_of(file) else {
         return text::print_refusal(out, NO_SYMBOL);
-    }
-    let first = HEADER;
+    };
     let mut payload = [0u8; MOST_PAYLOAD];
     let mut list = [0u16; MOST_LIST];
-    print_answer(&file[first..], &mut payload, &mut list, out)
+    print_answer(modules, &mut payload, &mut list, out)
 }

@@ -19,8 +19,3 @@ loop-x-preserved c = let l = c.loop-x in
     let made : t ≡ times_plus l.r (filled (get_or xs l.x-index 0)) (raised l.r 1) =
     c.times_plus-next.ensures ∙ ap₂ (λ x high. times_plus l.r (filled x) high) (get_or-take c.args.count xs l.x-index 0 here) c.raise.ensures in
     (row t (search rules) (λ h. search rules), λ h. ap (λ u. poly u h) made ∙ product_turn xs l.r l.x-index (omega arith) l.invariant.0 l.invariant.1 h)
-
-pub returns : goal.returns
-returns c = let l = c.loop-x in
-    let end : l.x-index ≡ c.args.count = omega (arith, length-take-le c.args.count c.args.xs (search rules)) in
-    rw end at l.invariant.1

@@ -1,10 +1,7 @@
 -- `parse::read_body` meets its contract. The invariant: what is written and what is left make the body.
 use native.Mathlib.Omega.{arith}
-use Rattle.parse.proofs.Along.{along_none, along_all, turn}
+use Rattle.parse.proofs.Along.{along_all, turn}
 use Rattle.parse.proofs.read_body.Goals as goal
-
-pub loop-done-init : goal.loop-done-init
-loop-done-init c = along_none _ _ _ _ _ _
 
 pub take-taken-requires : goal.take-taken-requires
 take-taken-requires c =

@@ -1,37 +1,27 @@
--- `penalty::dark` meets its contract. The invariant: the count and what is left make the whole.
-use mathlib.Core.Path.{◌≡◌, refl, sym, ap, ◌∙◌}
-use mathlib.Core.List.{List}
-use Prim.Native.Nat.{ℕ, zero, suc, ◌+◌, ◌<◌, ◌≤◌}
-use native.Mathlib.Nat.{add-zero}
-use native.Mathlib.Numerals.{add-one}
-use native.Mathlib.Omega.{arith}
-use lib.Dec.{eqb}
-use lib.ListN.{length, get_or, drop}
-use lib.Seq.{drop-cons, drop-length}
+-- `penalty::dark` meets its contract: a module is 0 or 1, so that it counts itself.
+use Rattle.std.proofs.Common.{rules, ◌≡◌, refl, ap, ◌∙◌, arith, ℕ, zero, suc, ◌+◌, ◌≤◌, eqb, List, [], ◌∷◌, map}
+use Rattle.std.specs.List.{sum}
+use Rattle.std.proofs.lemmas.Iterator.{YieldsList-from_slice, YieldsList-from_map}
+use Rattle.std.proofs.lemmas.Iterator.Consumers.{YieldsList-at, sum_from_yields_List}
+use Rattle.std.proofs.lemmas.List.Sums.{sum_by-cons}
 use Rattle.basics.specs.Sums.{one}
+use Rattle.basics.specs.Lists.{AtMost}
 use Rattle.penalty.specs.Penalty.{dark}
 use Rattle.penalty.proofs.dark.Goals as goal
 
--- a module is 0 or 1, so that it counts itself
-itself : (x : ℕ) → x ≤ 1 → one (eqb x 1) ≡ x
+itself : (x : ℕ) → x ≤ 1 → x ≡ one (eqb x 1)
 itself zero h = refl
 itself (suc zero) h = refl
 itself (suc (suc x)) h = absurd (omega arith)
 
-more : (m : List ℕ) (k : ℕ) → k < length m → get_or m k 0 ≤ 1 → dark (drop k m) ≡ get_or m k 0 + dark (drop (k + 1) m)
+counted : (m : List ℕ) → AtMost 1 m → sum (map (λ x. x) m) ≡ dark m
 unfolding dark
-more m k h small = rw (add-one, drop-cons m k 0 h) (ap (λ (x : ℕ). x + dark (drop (suc k) m)) (itself (get_or m k 0) small))
-
-none : (m : List ℕ) → dark (drop (length m) m) ≡ 0
-unfolding dark
-none m = rw (drop-length m)
-
-pub loop-k-preserved : goal.loop-k-preserved
-loop-k-preserved c = let k = c.loop-k.k in
-    let small = c.requires.1 k (omega arith) in
-    (omega arith, (omega arith, omega (arith, more c.args.m.now k (omega arith) small)))
+counted [] h = refl
+counted (x ∷ m) h = sum_by-cons (λ y. y) x (map (λ y. y) m) ∙ ap (λ (y : ℕ). y + sum (map (λ z. z) m)) (itself x (h 0 (omega arith))) ∙ ap (λ (y : ℕ). one (eqb x 1) + y) (counted m (λ i l. h (suc i) (omega arith)))
 
 pub returns : goal.returns
-returns c = let i = c.loop-k.invariant in
-    let e : c.loop-k.k ≡ length c.args.m.now = omega arith in
-    sym (add-zero _) ∙ rw (e, none) at i.1.1
+returns c =
+    let m = c.args.m.now in
+    sum_from_yields_List c.map.result _ c.sum.ensures.ran
+    (YieldsList-from_map _ (λ x. x) (YieldsList-at c.map.ensures.source (YieldsList-from_slice m cc)) c.map.ensures.closure (λ x r q k. search rules))
+    ∙ counted m c.requires.1

@@ -1,30 +1,29 @@
--- `penalty::equal_run` meets its contract. The invariant: whether the first i modules are equal.
-use mathlib.Core.Path.{sym, ◌∙◌}
-use native.Mathlib.Omega.{arith}
-use borrow.Author.Tests.{eq-eqb, ne_eqb}
-use Rattle.penalty.specs.Lines.{alike}
-use Rattle.penalty.proofs.Counted.{and_true, alike_one, alike_more}
-use Rattle.penalty.proofs.Windows.{and_false}
+-- `penalty::equal_run` meets its contract.
+use Rattle.std.proofs.Common.{rules, tests, ◌≡◌, refl, ap, ◌∙◌, ◌<◌, arith, ℕ, ◌&&◌, Bool, eqb, List, [], ◌∷◌, get_or}
+use native.Mathlib.Nat.{add-zero, zero-mul}
+use Rattle.std.specs.List.{list_all}
+use Rattle.std.proofs.lemmas.Iterator.{YieldsList-from_slice}
+use Rattle.std.proofs.lemmas.Iterator.Search.{all_from_yields_List}
+use Rattle.basics.specs.Lists.{each}
+use Rattle.penalty.specs.Lines.{line, alike}
+use Rattle.penalty.proofs.Lines.{get_d_line}
 use Rattle.penalty.proofs.equal_run.Goals as goal
-use Rattle.penalty.proofs.equal_run.Goals.{then-m-at, else-m-at}
 
-pub loop-i-init : goal.loop-i-init
-loop-i-init c = (omega arith, (omega arith, sym (alike_one _ _ _)))
+every : (test : ℕ → Bool) (xs : List ℕ) → list_all test xs ≡ each test xs
+unfolding each
+every test [] = refl
+every test (x ∷ xs) = ap (λ (b : Bool). test x && b) (every test xs)
 
-pub loop-i-preserved : goal.loop-i-preserved
-loop-i-preserved c =
+-- the modules of a line beside their first
+run_is : (m xs : List ℕ) (at stride k : ℕ) → 0 < k → xs ≡ line m at stride k → list_all (λ x. eqb x (get_or xs 0 0)) xs ≡ alike m at stride k
+unfolding alike
+run_is m xs at stride k h e =
+    let first : get_or (line m at stride k) 0 0 ≡ get_or m at 0 = get_d_line m at stride k 0 h ∙ ap (λ (p : ℕ). get_or m p 0) (rw zero-mul (add-zero at)) in
+    rw (e, first) (every (λ x. eqb x (get_or m at 0)) (line m at stride k))
+
+pub returns : goal.returns
+returns g c =
     let a = c.args in
-    let l = c.loop-i in
-    elim c.if-m-at.branch [
-      | then-m-at w ↦ (
-        omega arith,
-        (omega arith, w.same-is ∙ sym (alike_more a.m.now a.stride a.at l.i ∙ rw (ne_eqb _ _ w.if-m-at.true) (and_false (alike a.m.now a.at a.stride l.i)))),
-      )
-      | else-m-at w ↦ (
-        omega arith,
-        (
-          omega arith,
-          w.same-is ∙ l.invariant.1.1 ∙ sym (alike_more a.m.now a.stride a.at l.i ∙ rw (eq-eqb _ _ w.if-m-at.false) (and_true (alike a.m.now a.at a.stride l.i))),
-        ),
-      )
-    ]
+    let xs = c.window-run.result in
+    all_from_yields_List (λ x. eqb x (get_or xs 0 0)) c.all.new.self _ _ c.all.ensures.ran (YieldsList-from_slice xs cc) (λ x b q k. search (rules, tests))
+    ∙ run_is a.m.now xs a.at a.stride g.row.K (omega arith) c.window-run.ensures

@@ -1,24 +1,30 @@
--- `penalty::row_squares` meets its contract. The invariant: the score is that of the squares passed.
-use mathlib.Core.Path.{refl, ap₂}
-use Prim.Native.Nat.{◌+◌, ◌≤◌}
-use native.Mathlib.Numerals.{add-one}
-use native.Mathlib.Omega.{arith}
-use Rattle.basics.specs.Sums.{sum}
-use Rattle.penalty.specs.Lines.{squares_from}
-use Rattle.penalty.proofs.Squares.{square_le}
+-- `penalty::row_squares` meets its contract.
+use Rattle.std.proofs.Common.{rules, refl, ◌∙◌, ◌+◌, ◌-◌, arith, get_or}
+use Rattle.std.proofs.lemmas.Iterator.{YieldsList-from_range, YieldsList-from_map}
+use Rattle.std.proofs.lemmas.Iterator.Consumers.{YieldsList-at, sum_from_yields_List, fits_from_yields_list}
+use Rattle.penalty.specs.Lines.{square, squares_from}
+use Rattle.penalty.proofs.Squares.{squares_from_le}
+use Rattle.penalty.proofs.Sums.{sum_range}
 use Rattle.penalty.proofs.row_squares.Goals as goal
 
-small : (c : goal.After-square_score-score) → c.square_score-score.result ≤ 3
-small c = rw c.square_score-score.ensures (square_le _ _ _ _)
+pub sum-requires-clause-fits : goal.sum-requires-clause-fits
+unfolding squares_from
+sum-requires-clause-fits c =
+    let m = c.args.m.now in
+    let start = c.args.start in
+    let s = c.args.s in
+    fits_from_yields_list c.map.result _
+    (YieldsList-from_map _ (λ j. square (get_or m (start + j) 0) (get_or m (start + j + 1) 0) (get_or m (start + s + j) 0) (get_or m (start + s + j + 1) 0))
+    (YieldsList-at c.map.ensures.source (YieldsList-from_range 0 (s - 1) (s - 1) refl (omega arith))) c.map.ensures.closure (λ x r q k. search rules))
+    (rw (sum_range _ (s - 1)) (omega (arith, squares_from_le s m start (s - 1))))
 
-pub loop-j-init : goal.loop-j-init
-unfolding squares_from sum
-loop-j-init c = (omega arith, (omega arith, refl))
-
-pub overflow_add-score : goal.overflow_add-score
-overflow_add-score c = omega (arith, small c)
-
-pub loop-j-preserved : goal.loop-j-preserved
-unfolding squares_from sum
-loop-j-preserved c = let l = c.loop-j in
-    (omega arith, (omega (arith, small c), rw add-one (ap₂ ◌+◌ l.invariant.1.1 c.square_score-score.ensures)))
+pub returns : goal.returns
+unfolding squares_from
+returns c =
+    let m = c.args.m.now in
+    let start = c.args.start in
+    let s = c.args.s in
+    sum_from_yields_List c.map.result _ c.sum.ensures.ran
+    (YieldsList-from_map _ (λ j. square (get_or m (start + j) 0) (get_or m (start + j + 1) 0) (get_or m (start + s + j) 0) (get_or m (start + s + j + 1) 0))
+    (YieldsList-at c.map.ensures.source (YieldsList-from_range 0 (s - 1) (s - 1) refl (omega arith))) c.map.ensures.closure (λ x r q k. search rules))
+    ∙ sum_range _ (s - 1)

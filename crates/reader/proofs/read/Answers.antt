@@ -1,16 +1,13 @@
 -- `reader::read` meets its contract: each way out is one law of `Telling`, from what the steps on the way ensure.
-use Rattle.std.proofs.Common.{◌≡◌, List, ℕ, ◌≤◌, length, sym, subst, ◌∙◌}
-use Rattle.std.proofs.lemmas.List.{length-take-le}
+use Rattle.std.proofs.Common.{List, ℕ, ◌≤◌, length}
 use Rattle.std.proofs.lemmas.Result.{err_from_is_err_and}
 use Rattle.basics.specs.Lists.{AtMost}
-use Rattle.tables.specs.Tables.{Lawful, most_payload, most_list, data_count}
+use Rattle.tables.specs.Tables.{most_payload, most_list}
 use Rattle.tables.specs.Version.{Square}
-use Rattle.tables.proofs.Rules.{data_most}
 use Rattle.reader.specs.declared.Meta.{Meta}
 use Rattle.reader.specs.Reader.{OtherVersion}
 use Rattle.reader.specs.Steps.{FormatRead}
 use Rattle.reader.specs.Theorems.{PastSize, PastVersions, PastFormats}
-use Rattle.reader.proofs.Passing.{past_lawful}
 use Rattle.reader.proofs.Telling.{small, not_small, no_version, above, not_above, other_version, no_format, finished}
 use Rattle.reader.proofs.read.Goals as goal
 
@@ -29,10 +26,6 @@ module _ (m payload list : List ℕ) (hp : most_payload ≤ length payload) (hl 
     -- 10 and 11 are passed: the level and the mask
     named : (meta : Meta) → FormatRead v m meta → PastFormats m (length payload) (length list) v meta.level meta.mask
     named meta g = record { plain = plain; copy = g.copy; stands = g.stands; one = g.one }
-
--- no version and level has more data codewords than there is room for
-room : (v level d : ℕ) → Lawful v level → d ≡ data_count v level → d ≤ 274
-room v level d lawful e = subst (λ (x : ℕ). x ≤ 274) (sym e) (data_most v level lawful)
 
 -- ---- the goals
 
@@ -58,21 +51,6 @@ pub returns-in_err-level : goal.returns-in_err-level
 returns-in_err-level c =
     let p = err_from_is_err_and c.from_residual-in_err-level.result c.from_residual-in_err-level.ensures.1 in
     rw (p.1, p.2) (no_format _ _ _ _ (plain _ _ _ c.if-payload-lt-MOST_PAYLOAD.false c.if-list-lt-MOST_LIST.false _ c.in_ok-v.ensures c.in_ok-check_modules.ensures c.in_ok-check_versions.ensures) _ c.in_err-level.ensures)
-
-pub slice_bounds-held-end : goal.slice_bounds-held-end
-slice_bounds-held-end c = room _ _ _ (past_lawful _ _ _ _ _ _ (named _ _ _ c.if-payload-lt-MOST_PAYLOAD.false c.if-list-lt-MOST_LIST.false _ c.in_ok-v.ensures c.in_ok-check_modules.ensures c.in_ok-check_versions.ensures _ c.in_ok-level.ensures)) c.data-d.ensures
-
-pub slice_bounds-finish-end : goal.slice_bounds-finish-end
-slice_bounds-finish-end c = sym (length-take-le _ _ (room _ _ _ (past_lawful _ _ _ _ _ _ (named _ _ _ c.if-payload-lt-MOST_PAYLOAD.false c.if-list-lt-MOST_LIST.false _ c.in_ok-v.ensures c.in_ok-check_modules.ensures c.in_ok-check_versions.ensures _ c.in_ok-level.ensures)) c.data-d.ensures))
-
-pub finish-requires-clause-m_len : goal.finish-requires-clause-m_len
-finish-requires-clause-m_len c = (
-  c.in_ok-v.ensures.long,
-  (
-    c.in_ok-check_modules.ensures,
-    length-take-le _ _ (room _ _ _ (past_lawful _ _ _ _ _ _ (named _ _ _ c.if-payload-lt-MOST_PAYLOAD.false c.if-list-lt-MOST_LIST.false _ c.in_ok-v.ensures c.in_ok-check_modules.ensures c.in_ok-check_versions.ensures _ c.in_ok-level.ensures)) c.data-d.ensures) ∙ c.data-d.ensures,
-  ),
-)
 
 pub returns : goal.returns
 returns c =

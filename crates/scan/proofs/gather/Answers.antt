@@ -1,10 +1,13 @@
 -- `scan::gather` meets its contract: the walk, with the kinds that tell the data modules and the rows that tell the mask.
-use mathlib.Core.Path.{subst⁻¹, ◌∙◌}
+use mathlib.Core.Path.{subst⁻¹, ap, ◌∙◌}
+use lib.ListN.{length}
+use Rattle.basics.proofs.Build.{build_get, build_length}
 use mathlib.Core.List.{List}
 use Prim.Native.Nat.{ℕ, ◌-◌, ◌*◌, ◌≤◌}
 use native.Mathlib.Nat.{mul-le-mul_left, le_trans}
 use native.Mathlib.Omega.{arith}
-use Rattle.tables.specs.Tables.{side}
+use Rattle.modules.specs.Kinds.{row_flips}
+use Rattle.tables.specs.Tables.{side, most_side}
 use Rattle.scan.specs.Scan.{DataMap}
 use Rattle.scan.proofs.Maps.{kinds_map}
 use Rattle.scan.proofs.Whole.{received_passed}
@@ -18,7 +21,7 @@ walk-requires c =
       most = c.requires.le_v.1.0;
       matrix = c.requires.m_len.0;
       marked = subst⁻¹ (λ (k : List ℕ). DataMap v k) c.kinds.ensures (kinds_map v _);
-      flips = omega (arith, c.flip_rows-rows.ensures.0);
+      flips = omega (arith, ap length c.flip_rows-rows.ensures, build_length (row_flips c.args.mask) most_side);
       enough = c.requires.m_len.1;
     }
 
@@ -27,12 +30,11 @@ returns c =
     let v : ℕ = c.args.v in
     let m = c.args.m.now in
     let w = c.walk.ensures in
-    let f = c.flip_rows-rows.ensures.1 in
-    let sized = c.side.ensures in
+    let f = row_flips c.args.mask in
     let fewer : side v * (side v - 1) ≤ side v * side v = mul-le-mul_left (side v) (omega arith) in (
       w.0,
       (
         le_trans w.1.few (le_trans fewer c.requires.m_len.1),
-        w.1.front ∙ received_passed v c.args.mask m c.requires.le_v.0 c.requires.le_v.1.0 _ (λ i h. f i (omega (arith, sized))),
+        w.1.front ∙ received_passed v c.args.mask m c.requires.le_v.0 c.requires.le_v.1.0 _ (λ i h. rw c.flip_rows-rows.ensures (build_get f most_side i (omega arith))),
       ),
     )

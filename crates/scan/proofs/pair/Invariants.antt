@@ -1,13 +1,11 @@
--- `scan::pair` meets its contract. The loop's invariant: the entries so far are the data modules that the steps so far met.
-use mathlib.Core.Path.{◌≡◌}
-use Prim.Native.Nat.{◌+◌, ◌-◌, ◌*◌, ◌≤◌}
-use lib.ListN.{length}
+-- `scan::pair` meets its contract. The loops' invariants: the entries so far are the data modules that the steps so far met.
+use Rattle.std.proofs.Common.{◌+◌, ◌*◌}
 use Rattle.tables.specs.Tables.{side}
 use Rattle.scan.specs.Scan.{Walked}
 use Rattle.scan.proofs.pair.Given as goal
 
-abbrev pub invariant-loop-r : goal.invariant-loop-r
-invariant-loop-r l = (l.r ≤ 2 * side l.v) × (length l.out ≡ length l.initial.out) × Walked l.v l.rows l.m (l.q * (2 * side l.v) + l.r) l.count l.out
+abbrev pub invariant-loop-t : goal.invariant-loop-t
+invariant-loop-t l = Walked l.v l.rows l.m (l.q * (2 * side l.v) + 2 * l.t) l.count l.out
 
-abbrev pub decreases-loop-r : goal.decreases-loop-r
-decreases-loop-r l = 2 * side l.v - l.r
+abbrev pub invariant-loop-column : goal.invariant-loop-column
+invariant-loop-column l = Walked l.v l.rows l.m (l.q * (2 * side l.v) + (2 * l.t + l.column-index)) l.count l.out

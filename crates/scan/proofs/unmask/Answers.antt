@@ -7,6 +7,6 @@ pub returns-then-x-eq-UNREADABLE : goal.returns-then-x-eq-UNREADABLE
 unfolding plain
 returns-then-x-eq-UNREADABLE c = rw (eq-eqb _ 2 c.if-x-eq-UNREADABLE.true)
 
-pub returns : goal.returns
+pub returns-else-x-eq-UNREADABLE : goal.returns-else-x-eq-UNREADABLE
 unfolding plain
-returns c = rw (ne_eqb _ 2 c.if-x-eq-UNREADABLE.false)
+returns-else-x-eq-UNREADABLE c = rw (ne_eqb _ 2 c.if-x-eq-UNREADABLE.false)

@@ -1,26 +1,16 @@
--- `scan::version_copy` meets its contract. The loop's invariant: the bits from b up are read.
-use Prim.Native.Nat.{◌-◌}
-use native.Mathlib.Omega.{arith}
-use borrow.Author.Rules.{rules}
+-- `scan::version_copy` meets its contract.
+use Rattle.std.proofs.Common.{◌≡◌, get_or, arith, rules}
 use Rattle.modules.specs.Modules.{version_places}
 use Rattle.modules.proofs.Geometry.{word_places}
-use Rattle.scan.proofs.Copies.{version_length, copy_none, copy_small, copy_more}
+use Rattle.scan.proofs.Copies.{version_length}
 use Rattle.scan.proofs.version_copy.Goals as goal
 
-pub loop-b-init : goal.loop-b-init
-loop-b-init c = (search rules, copy_none c.args.m.now (version_places c.args.v c.args.copy) 18 (omega (arith, version_length c.args.v c.args.copy c.requires.0)))
+pub copy_at-requires-clause-within : goal.copy_at-requires-clause-within
+copy_at-requires-clause-within c =
+    λ b p h k.
+    let at : p ≡ get_or (version_places c.args.v c.args.copy) b 0 = search rules in
+    omega (arith, (word_places c.args.v (omega arith) c.requires.1.0).version_inside c.args.copy b c.requires.0 c.requires.1.1.0 h)
 
-pub bounds-m-p : goal.bounds-m-p
-bounds-m-p c = let l = c.loop-b in
-    omega (arith, c.version_place-p.ensures, c.requires.1.1.1, (word_places c.args.v (omega (arith, c.requires.0)) c.requires.1.0).version_inside c.args.copy (l.b - 1) c.requires.0 c.requires.1.1.0 (omega arith))
-
-pub below-read-requires : goal.below-read-requires
-below-read-requires c = let l = c.loop-b in
-    copy_small c.args.m.now (version_places c.args.v c.args.copy) l.b l.read (omega (arith, version_length c.args.v c.args.copy c.requires.0)) l.invariant.1
-
-pub loop-b-preserved : goal.loop-b-preserved
-loop-b-preserved c = let l = c.loop-b in (
-  search rules,
-  copy_more c.args.m.now (version_places c.args.v c.args.copy) l.b c.version_place-p.result l.read c.below-read.result (search rules)
-      (omega (arith, version_length c.args.v c.args.copy c.requires.0)) l.invariant.1 c.version_place-p.ensures c.below-read.ensures,
-)
+pub returns : goal.returns
+returns c =
+    c.copy_at.ensures (version_places c.args.v c.args.copy) (version_length c.args.v c.args.copy c.requires.0) (λ b p h k. search rules)

@@ -5,7 +5,6 @@ use native.Mathlib.Nat.{mul_assoc, mul_comm, mul_left_comm, zero-mul}
 use native.Mathlib.Omega.{arith}
 use mathlib.Core.List.{List}
 use Rattle.basics.specs.Lists.{from, up_to, keep}
-use borrow.Author.Rules.{rules}
 use Rattle.tables.specs.Tables.{side}
 use Rattle.scan.specs.Scan.{Walked, passed}
 use Rattle.scan.proofs.walk.Goals as goal
@@ -18,7 +17,7 @@ twist : (q s : ℕ) → 2 * (q * s) ≡ s * (2 * q)
 twist q s = sym (mul_assoc 2 q s) ∙ mul_comm (2 * q) s
 
 pub loop-q-init : goal.loop-q-init
-loop-q-init c = (search rules, refl, none c.args.v c.args.rows.now c.args.m.now c.args.out.now)
+loop-q-init c = none c.args.v c.args.rows.now c.args.m.now c.args.out.now
 
 pub returns : goal.returns
 returns c =
@@ -26,4 +25,4 @@ returns c =
     let s : ℕ = side c.args.v in
     let pairs : s - 1 ≡ 2 * l.q = omega arith in
     let done : l.q * (2 * s) ≡ s * (s - 1) = mul_left_comm l.q 2 s ∙ (rw pairs (twist l.q s)) in
-    (l.invariant.1, subst (λ (k : ℕ). Walked c.args.v c.args.rows.now c.args.m.now k l.n l.out) done l.invariant.2)
+    (omega arith, subst (λ (k : ℕ). Walked c.args.v c.args.rows.now c.args.m.now k l.n l.out) done l.invariant)
