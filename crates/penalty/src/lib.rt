@@ -22,6 +22,7 @@ fn equal(w: &[u8; 11], p: &[u8; 11]) -> bool
 }
 
 // Whether a window is one pattern or the other.
+#[tactic(auto, unfolding(crate::specs::Penalty::finder_like, crate::specs::Penalty::patterns))]
 fn finder_like(w: [u8; 11]) -> bool
     ensures { result ≡ paper.finder_like w }
 {
@@ -107,6 +108,7 @@ fn turn(m: &[u8], s: usize, out: &mut [u8])
 }
 
 // What a square of four modules adds.
+#[tactic(auto, unfolding(crate::specs::Lines::square))]
 fn square_score(a: u8, b: u8, c: u8, d: u8) -> u32
     ensures { result ≡ square a b c d }
 {
@@ -144,6 +146,7 @@ fn dark(m: &[u8]) -> u32
 }
 
 // What k dark modules of s·s add.
+#[tactic(auto, unfolding(crate::specs::Penalty::share))]
 fn share_score(s: u32, k: u32) -> u32
     requires { (1 ≤ s) × ((s ≤ 64) × (k ≤ 4096)) }
     ensures { result ≡ paper.share s k }

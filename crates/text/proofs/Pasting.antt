@@ -134,3 +134,7 @@ end p = done p.progress
 pub printed : {out after s : List ℕ} {n : ℕ} → RoomForBytes out 0 s → Pasted out 0 s n after → Printed s out n after
 printed {out} {after} {s} h p =
     record { counts = omega (arith, p.behind); holds = p.holds ∙ pasted_front s out (omega (arith, h.fits)) }
+
+-- the same of the buffer by another name
+pub printed_in : {out after back s : List ℕ} {n : ℕ} → back ≡ after → Printed s out n after → Printed s out n back
+printed_in e p = rw e p
