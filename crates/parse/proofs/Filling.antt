@@ -58,10 +58,6 @@ module _ (codewords : List ℕ) (v : ℕ) (payload₀ list₀ : List ℕ) where
       }
 
   module _ (payload list : List ℕ) (p : Progress) (f : Filling codewords v payload₀ list₀ payload list p) where
-    pub filling_asks : length codewords ≤ most_data v → most_payload ≤ length payload₀ → most_list ≤ length list₀ → ends (drop p.cursor.at (byte_bits codewords)) ≡ false
-        → StepAsks codewords v p payload list
-    filling_asks s h l g = record { short = s; goes = g; load = f.load; rooms = omega (arith, f.long); numbers = omega (arith, f.longs) }
-
     -- the fuel is not spent
     heads_few : (t : Bool) → cond t 12 15 * p.segments ≤ p.cursor.at → p.segments ≤ p.cursor.at
     heads_few true h = omega arith
