@@ -11,11 +11,10 @@ use lib.ListN.{length, take, drop}
 use lib.Seq.{drop-drop}
 use Rattle.basics.specs.Bits.{byte_bits}
 use Rattle.basics.proofs.Bits.{length_byte_bits}
-use Rattle.tables.specs.Tables.{most_payload, most_list}
 use Rattle.stream.specs.Stream.{body_width}
 use Rattle.parse.specs.declared.Progress.{Progress}
 use Rattle.parse.specs.Parse.{characters, End, Refusal, head_width, ends, front, Parsed, Message, Fault, in_front, parse, most_data, message}
-use Rattle.parse.specs.Steps.{Load, StepAsks, Stepped, FillReads}
+use Rattle.parse.specs.Steps.{Load, Stepped, FillReads}
 use Rattle.parse.proofs.Front.{segment_whole, parse_segment, parse_refusal, parse_end}
 use Rattle.parse.proofs.Heads.{left_bits, going}
 use Rattle.parse.proofs.Load.{load_none, load_more, load_enough}
