@@ -5,6 +5,7 @@ pub mod Running
 pub mod Erasing
 pub mod Listing
 pub mod Turns
+pub mod Mending
 pub mod Picked
 pub mod Finding
 pub mod Counting

@@ -2,20 +2,19 @@
 use mathlib.Core.Path.{◌≡◌, sym, ap, ◌∙◌}
 use mathlib.Core.List.{List, ◌++◌}
 use Prim.Native.Nat.{ℕ}
+use Rattle.std.specs.Prelude.{Option, Some, None}
 use lib.ListN.{length, take, drop}
 use Rattle.reader.specs.Reader.{Answer}
 use Rattle.symbolfile.specs.SymbolFile.{Holds, opened, printed}
 use Rattle.symbolfile.proofs.Only.{answer_only}
 use Rattle.load.specs.Loaded.{LoadedAnswer, LoadedPrinted}
-use Rattle.load.specs.declared.Loaded.{Loaded}
-use Rattle.load.specs.declared.Loaded.TheVariants.{Bytes, Unreadable}
 
-loaded_answer_only : (l : Loaded) (bytes : List ℕ) (x y : Answer) → LoadedAnswer l bytes x → LoadedAnswer l bytes y → x ≡ y
-loaded_answer_only Unreadable bytes x y p q = p ∙ sym q
-loaded_answer_only (Bytes n) bytes x y p q = answer_only (opened (Holds (take n bytes))) x y p q
+loaded_answer_only : (l : Option ℕ) (bytes : List ℕ) (x y : Answer) → LoadedAnswer l bytes x → LoadedAnswer l bytes y → x ≡ y
+loaded_answer_only None bytes x y p q = p ∙ sym q
+loaded_answer_only (Some n) bytes x y p q = answer_only (opened (Holds (take n bytes))) x y p q
 
 -- no two different answers satisfy the promise of `print_loaded`
-pub loaded_printed_only : (l : Loaded) (bytes before : List ℕ) (n n' : ℕ) (a a' : List ℕ)
+pub loaded_printed_only : (l : Option ℕ) (bytes before : List ℕ) (n n' : ℕ) (a a' : List ℕ)
     → LoadedPrinted l bytes before n a → LoadedPrinted l bytes before n' a' → (n ≡ n') × (a ≡ a')
 loaded_printed_only l bytes before n n' a a' p q =
     let e = ap printed (loaded_answer_only l bytes p.answer q.answer p.answers q.answers) in (

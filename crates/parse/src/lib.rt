@@ -83,12 +83,12 @@ fn character(x: usize) -> u8
 fn next_group(mode: usize, left: usize) -> Group
     ensures { result ≡ group_of mode left }
 {
-    let (size, width, most) = match (mode, left) {
-        (1, 3..) => (3, 10, 999),
-        (1, 2) => (2, 7, 99),
-        (1, _) => (1, 4, 9),
-        (2, 2..) => (2, 11, 2024),
-        (2, _) => (1, 6, 44),
+    let (size, width, most) = match mode {
+        1 if 3 <= left => (3, 10, 999),
+        1 if left == 2 => (2, 7, 99),
+        1 => (1, 4, 9),
+        2 if 2 <= left => (2, 11, 2024),
+        2 => (1, 6, 44),
         _ => (1, 8, 255),
     };
     Group { size, width, most }

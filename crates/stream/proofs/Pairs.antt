@@ -2,7 +2,7 @@
 use mathlib.Core.Path.{◌≡◌, refl, ap, ◌∙◌}
 use mathlib.Core.Bool.{Bool, true, false, ◌&&◌}
 use mathlib.Core.List.{List, [], ◌∷◌, ◌++◌}
-use Prim.Native.Nat.{ℕ, ◌+◌, ◌-◌, ◌%◌, ◌<◌, ◌≤◌}
+use Prim.Native.Nat.{ℕ, ◌+◌, ◌%◌, ◌<◌, ◌≤◌}
 use native.Mathlib.Omega.{arith}
 use lib.ListN.{length, get_or, take, drop}
 use lib.Seq.{length-take-le}
@@ -22,10 +22,6 @@ each_all : (test : ℕ → Bool) (l : List ℕ) → each test l ≡ list_all tes
 unfolding each
 each_all test [] = refl
 each_all test (x ∷ l) = ap (λ (t : Bool). test x && t) (each_all test l)
-
--- a number more that passes what is left up to the most: the whole sum is above it
-pub sum_past : (sum x most rest all x' : ℕ) {left : ℕ} → sum + left ≡ all → left ≡ x' + rest → x ≡ x' → sum ≤ most → most - sum < x → most < all
-sum_past sum x most rest all x' h e w m p = omega arith
 
 -- the pairs themselves, and a list that is lawful by them
 pub pairs : List ℕ → List (List ℕ)
@@ -73,7 +69,7 @@ module _ (l : List ℕ) (h : length l < 2) where
   unfolding segments
   segments_none v s = few (λ r. segments v r s) [] refl (λ x. refl) l h
 
-pub two : (pair rest : List ℕ) → length pair ≡ 2 → pair ++ rest ≡ get_or pair 0 0 ∷ get_or pair 1 0 ∷ rest
+two : (pair rest : List ℕ) → length pair ≡ 2 → pair ++ rest ≡ get_or pair 0 0 ∷ get_or pair 1 0 ∷ rest
 two [] rest h = absurd (omega arith)
 two (a ∷ []) rest h = absurd (omega arith)
 two (a ∷ b ∷ []) rest h = refl

@@ -3,7 +3,6 @@
 use mathlib.Core.Path.{◌≡◌, refl, sym, ap, ◌∙◌}
 use mathlib.Core.List.{List, [], ◌++◌}
 use Prim.Native.Nat.{ℕ, ◌+◌, ◌*◌, ◌≤◌}
-use native.Mathlib.Nat.{add-zero}
 use native.Mathlib.Omega.{arith}
 use lib.ListN.{length, length-append}
 use Rattle.basics.specs.Bits.{bits}
@@ -74,14 +73,3 @@ module _ (out₀ : List ℕ) (at₀ : ℕ) (all : List ℕ) where
 
   pub going_put : {out : List ℕ} {at : ℕ} {rest out' : List ℕ} {at' : ℕ} → Going out at rest → Put out at rest out' at' → Put out₀ at₀ all out' at'
   going_put g p = record { moved = p.moved ∙ g.place; put = p.put ∙ g.held }
-
--- bits that are one field
-module _ {out : List ℕ} {at : ℕ} {bs : List ℕ} (n x : ℕ) where
-  pub room_field : RoomForBits out at bs → bs ≡ bits n x → at + n ≤ 8 * length out
-  room_field r e = rw (e, length_bits) at r.fit
-
-  pub put_field : bs ≡ bits n x → {out' : List ℕ} {at' : ℕ} → at' ≡ at + n → out' ≡ with_bits out at (bits n x) → Put out at bs out' at'
-  put_field e a o = record { moved = rw (e, length_bits) a; put = rw e o }
-
-pub put_nothing : {out : List ℕ} {at : ℕ} {bs : List ℕ} → bs ≡ [] → AtMost 255 out → Put out at bs out at
-put_nothing {out} {at} e h = record { moved = rw e (sym (add-zero at)); put = rw e (sym (with_bits_none out at h)) }

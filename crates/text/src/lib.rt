@@ -68,13 +68,10 @@ impl Page<'_> {
         if n == 0 {
             return;
         }
-        let digit = b'0' + (x % 10) as u8;
-        if x < 10 {
-            self.put_byte(digit);
-            return;
+        if x >= 10 {
+            self.put_digits(n - 1, x / 10);
         }
-        self.put_digits(n - 1, x / 10);
-        self.put_byte(digit)
+        self.put_byte(b'0' + (x % 10) as u8)
     }
 
     // A name and a number.

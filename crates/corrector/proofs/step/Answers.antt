@@ -27,18 +27,18 @@ returns-then-d-eq0 c = let w : Seen c.args.s c.args.st.a c.args.st.b c.args.st.i
     seen c.args.st (search rules) (λ k. search rules) (search rules) (λ k. search rules) (search rules) (search rules) (omega arith) c.requires.0 c.window-d.ensures in
     (running_keep w c.if-d-eq0.true, omega arith, c.requires.2)
 
-pub returns-then-i-l : goal.returns-then-i-l
-returns-then-i-l c = let w : Seen c.args.s c.args.st.a c.args.st.b c.args.st.i c.args.st.l c.args.st.e c.window-d.result =
+pub returns-then-st : goal.returns-then-st
+returns-then-st c = let w : Seen c.args.s c.args.st.a c.args.st.b c.args.st.i c.args.st.l c.args.st.e c.window-d.result =
     seen c.args.st (search rules) (λ k. search rules) (search rules) (λ k. search rules) (search rules) (search rules) (omega arith) c.requires.0 c.window-d.ensures in (
-      running_mend w c.mul-q.result c.mixed-mended.result (c.mul-q.ensures ∙ ap (mul_n _) c.requires.2) c.if-i-l.true c.mixed-mended.ensures,
+      running_mend w c.mul-q.result c.mixed-mended.result (c.mul-q.ensures ∙ ap (mul_n _) c.requires.2) c.if-st.true c.mixed-mended.ensures,
       omega arith,
       c.requires.2,
     )
 
-pub returns-else-i-l : goal.returns-else-i-l
-returns-else-i-l c = let w : Seen c.args.s c.args.st.a c.args.st.b c.args.st.i c.args.st.l c.args.st.e c.window-d.result =
+pub returns-else-st : goal.returns-else-st
+returns-else-st c = let w : Seen c.args.s c.args.st.a c.args.st.b c.args.st.i c.args.st.l c.args.st.e c.window-d.result =
     seen c.args.st (search rules) (λ k. search rules) (search rules) (λ k. search rules) (search rules) (search rules) (omega arith) c.requires.0 c.window-d.ensures in (
-      running_grow w c.mul-q.result c.mixed-grown.result (c.mul-q.ensures ∙ ap (mul_n _) c.requires.2) c.if-i-l.false c.if-d-eq0.false c.mixed-grown.ensures,
+      running_grow w c.mul-q.result c.mixed-grown.result (c.mul-q.ensures ∙ ap (mul_n _) c.requires.2) c.if-st.false c.if-d-eq0.false c.mixed-grown.ensures,
       omega arith,
       c.inv.ensures,
     )
