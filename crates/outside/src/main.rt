@@ -5,40 +5,23 @@
 
 ghost use Rattle.std.specs.Prelude.{◌≡◌, ◌+◌, ◌<◌, ◌≤◌, length, IfOk};
 
-use reader::Answered;
 use std::fs::File;
 use std::io;
 use std::io::Read;
-use writer::Drawing;
 
 const SYMBOLS: usize = 40;
-
-fn say(rt: &impl Print, text: &str) -> io::Result<()> {
-    rt.print(text)
-}
-
-fn wide(x: u8) -> usize
-    ensures { result < 256 }
-{
-    x as usize
-}
-
-// Whether the first n bytes are these.
-fn front_same(a: &[u8], n: usize, b: &[u8]) -> bool {
-    if n <= a.len() { &a[..n] == b } else { false }
-}
 
 // Whether a matrix reads to a payload.
 fn read_back(rt: &impl Print, modules: &[u8], payload: &[u8]) -> io::Result<()> {
     let mut bytes = [0u8; 652];
     let mut list = [0u16; 308];
     match reader::read(modules, &mut bytes, &mut list) {
-        Answered::Refused(k) => println!(rt; "refused {k}"),
-        Answered::Read(r) => {
-            if front_same(&bytes, r.payload, payload) {
-                say(rt, "read back\n")
+        Err(refusal) => println!(rt; "refused {}", refusal.number()),
+        Ok(reading) => {
+            if bytes.get(..reading.payload) == Some(payload) {
+                println!(rt; "read back")
             } else {
-                say(rt, "read otherwise\n")
+                println!(rt; "read otherwise")
             }
         }
     }
@@ -56,22 +39,20 @@ fn draw_alike(
 ) -> io::Result<()> {
     let mut out = [2u8; 3249];
     match writer::write(payload, list, level, version, mask, &mut out) {
-        Drawing::Refused(_) => say(rt, "refused, "),
-        Drawing::Drawn(_) => {
-            if front_same(&out, modules.len(), modules) {
-                say(rt, "drawn alike, ")
+        Err(_) => print!(rt; "refused, "),
+        Ok(_) => {
+            if out.starts_with(modules) {
+                print!(rt; "drawn alike, ")
             } else {
-                say(rt, "drawn otherwise, ")
+                print!(rt; "drawn otherwise, ")
             }
         }
     }
 }
 
 // A byte of the file; 0 past its end.
-fn byte_at(file: &[u8], at: usize) -> usize
-    ensures { result < 256 }
-{
-    if at < file.len() { wide(file[at]) } else { 0 }
+fn byte_at(file: &[u8], at: usize) -> u8 {
+    file.get(at).copied().unwrap_or(0)
 }
 
 // A number of two bytes, the high one first.
@@ -79,35 +60,22 @@ fn number_at(file: &[u8], at: usize) -> usize
     requires { at ≤ 65542 }
     ensures { result < 65536 }
 {
-    let high = byte_at(file, at);
-    let low = byte_at(file, at + 1);
-    256 * high + low
-}
-
-// The k-th of modules that stand eight to a byte.
-fn module_at(bits: &[u8], k: usize) -> u8 {
-    if (byte_at(bits, k / 8) >> (7 - k % 8)) % 2 == 1 {
-        1
-    } else {
-        0
-    }
+    usize::from(u16::from_be_bytes([byte_at(file, at), byte_at(file, at + 1)]))
 }
 
 // The modules that stand eight to a byte; 0 past their end.
 fn unpack(bits: &[u8], modules: &mut [u8]) {
-    let mut k: usize = 0;
-    while k < modules.len() {
-        modules[k] = module_at(bits, k);
-        k += 1;
+    for (k, module) in modules.iter_mut().enumerate() {
+        *module = (byte_at(bits, k / 8) >> (7 - k % 8)) & 1;
     }
 }
 
-fn say_level(rt: &impl Print, level: usize) -> io::Result<()> {
+fn level_name(level: usize) -> &'static str {
     match level {
-        0 => say(rt, "-L: "),
-        1 => say(rt, "-M: "),
-        2 => say(rt, "-Q: "),
-        _ => say(rt, "-H: "),
+        0 => "L",
+        1 => "M",
+        2 => "Q",
+        _ => "H",
     }
 }
 
@@ -122,13 +90,12 @@ fn try_symbol(
     bits: &[u8],
     size: usize,
 ) -> io::Result<()>
-    requires { size ≤ 3249 }
+    requires { (size ≤ 3249) × (length payload.now < 65536) }
 {
     let mut modules = [0u8; 3249];
     unpack(bits, &mut modules);
-    let list = [mode, (payload.len() % 65536) as u16];
-    print!(rt; "{version}")?;
-    say_level(rt, level)?;
+    let list = [mode, payload.len() as u16];
+    print!(rt; "{version}-{}: ", level_name(level))?;
     draw_alike(rt, payload, &list, level, version, mask, &modules[..size])?;
     read_back(rt, &modules[..size], payload)
 }
@@ -141,17 +108,14 @@ fn try_one(rt: &impl Print, file: &[u8], at: usize) -> io::Result<usize>
     let size = number_at(file, at + 6);
     let p = at + 8;
     let q = p + number_at(file, at + 4);
-    let e = q + (size + 7) / 8;
-    if file.len() < e {
+    let e = q + size.div_ceil(8);
+    if file.len() < e || size > 3249 {
         return Ok(file.len());
     }
-    if size > 3249 {
-        return Ok(file.len());
-    }
-    let version = byte_at(file, at);
-    let level = byte_at(file, at + 1);
-    let mask = byte_at(file, at + 2);
-    let mode = (byte_at(file, at + 3) % 256) as u16;
+    let version = usize::from(byte_at(file, at));
+    let level = usize::from(byte_at(file, at + 1));
+    let mask = usize::from(byte_at(file, at + 2));
+    let mode = u16::from(byte_at(file, at + 3));
     try_symbol(
         rt,
         version,
@@ -170,31 +134,18 @@ fn try_all(rt: &impl Print, file: &[u8]) -> io::Result<()>
     requires { length file.now ≤ 65536 }
 {
     let mut at: usize = 0;
-    let mut turn: usize = 0;
-    while turn < SYMBOLS {
+    for _ in 0..SYMBOLS {
         at = try_one(rt, file, at)?;
-        turn += 1;
     }
     Ok(())
 }
 
-// Turns a module over, or makes it unreadable.
-fn touch_one(m: &mut [u8], p: usize, over: bool) {
-    if p < m.len() {
-        if over {
-            m[p] = m[p] ^ 1;
-        } else {
-            m[p] = 2;
-        }
-    }
-}
-
 // Turns over the modules at the first places, so many of them, and makes those at the others unreadable.
 fn touch(m: &mut [u8], places: &[usize], turned: usize) {
-    let mut k: usize = 0;
-    while k < places.len() {
-        touch_one(m, places[k], k < turned);
-        k += 1;
+    for (k, place) in places.iter().enumerate() {
+        if let Some(module) = m.get_mut(*place) {
+            *module = if k < turned { *module ^ 1 } else { 2 };
+        }
     }
 }
 
@@ -211,9 +162,11 @@ fn attempt(
 {
     let mut m = [0u8; 3249];
     let list = [2u16, 13];
-    writer::write(b"LOOP 7 SP 124", &list, 0, version, 2, &mut m);
+    if writer::write(b"LOOP 7 SP 124", &list, 0, version, 2, &mut m).is_err() {
+        return println!(rt; "{text}not drawn");
+    }
     touch(&mut m, places, turned);
-    say(rt, text)?;
+    print!(rt; "{text}")?;
     read_back(rt, &m[..size], b"LOOP 7 SP 124")
 }
 
@@ -233,25 +186,22 @@ const OTHER_VERSION: [usize; 8] = [79, 81, 126, 171, 214, 215, 216, 259];
 
 // A block at its bound and past it.
 fn block_bounds(rt: &impl Print) -> io::Result<()> {
-    let at = CODEWORDS;
-    attempt(rt, "7 unreadable: ", 1, 441, &at[..7], 0)?;
-    attempt(rt, "8 unreadable: ", 1, 441, &at[..8], 0)?;
-    attempt(rt, "3 wrong, 1 unreadable: ", 1, 441, &at[..4], 3)?;
-    attempt(rt, "3 wrong, 2 unreadable: ", 1, 441, &at[..5], 3)?;
-    attempt(rt, "4 wrong: ", 1, 441, &at[..4], 4)
+    attempt(rt, "7 unreadable: ", 1, 441, &CODEWORDS[..7], 0)?;
+    attempt(rt, "8 unreadable: ", 1, 441, &CODEWORDS[..8], 0)?;
+    attempt(rt, "3 wrong, 1 unreadable: ", 1, 441, &CODEWORDS[..4], 3)?;
+    attempt(rt, "3 wrong, 2 unreadable: ", 1, 441, &CODEWORDS[..5], 3)?;
+    attempt(rt, "4 wrong: ", 1, 441, &CODEWORDS[..4], 4)
 }
 
 // Format copies at their bounds and past them.
 fn format_bounds(rt: &impl Print) -> io::Result<()> {
-    let at = FORMATS;
-    let other = OTHER_MASK;
-    attempt(rt, "3 flips in a format copy: ", 1, 441, &at[..3], 3)?;
+    attempt(rt, "3 flips in a format copy: ", 1, 441, &FORMATS[..3], 3)?;
     attempt(
         rt,
         "2 flips, 2 unreadable in a format copy: ",
         1,
         441,
-        &at[..4],
+        &FORMATS[..4],
         2,
     )?;
     attempt(
@@ -259,37 +209,57 @@ fn format_bounds(rt: &impl Print) -> io::Result<()> {
         "7 unreadable in one, 6 in the other: ",
         1,
         441,
-        &at[..13],
+        &FORMATS[..13],
         0,
     )?;
-    attempt(rt, "7 unreadable in both: ", 1, 441, &at[..14], 0)?;
+    attempt(rt, "7 unreadable in both: ", 1, 441, &FORMATS, 0)?;
     attempt(
         rt,
         "a format copy of another mask: ",
         1,
         441,
-        &other[..7],
+        &OTHER_MASK,
         7,
     )
 }
 
 // Version copies at their bounds and past them.
 fn version_bounds(rt: &impl Print) -> io::Result<()> {
-    let at = OTHER_VERSION;
-    attempt(rt, "3 flips in a version copy: ", 7, 2025, &at[..3], 3)?;
-    attempt(rt, "4 flips in a version copy: ", 7, 2025, &at[..4], 4)?;
-    attempt(rt, "3 flips from another version: ", 7, 2025, &at[..5], 5)?;
+    attempt(
+        rt,
+        "3 flips in a version copy: ",
+        7,
+        2025,
+        &OTHER_VERSION[..3],
+        3,
+    )?;
+    attempt(
+        rt,
+        "4 flips in a version copy: ",
+        7,
+        2025,
+        &OTHER_VERSION[..4],
+        4,
+    )?;
+    attempt(
+        rt,
+        "3 flips from another version: ",
+        7,
+        2025,
+        &OTHER_VERSION[..5],
+        5,
+    )?;
     attempt(
         rt,
         "a version copy of another version: ",
         7,
         2025,
-        &at[..8],
+        &OTHER_VERSION,
         8,
     )
 }
 
-// Reads until the buffer is full or the file ends; how many bytes stand at the buffer's front then.
+// Reads until the buffer is full or the file ends, since a read may give fewer bytes than asked; how many stand at the front then.
 fn read_full(file: &mut impl Read, buf: &mut [u8]) -> io::Result<usize>
     ensures long { length buf.new ≡ length buf.old }
     ensures within { IfOk result (λ n. n ≤ length buf.old) }
@@ -309,9 +279,7 @@ fn main(rt: HostRuntime) -> io::Result<()> {
     let mut opened = File::open(&rt, "symbols")?;
     let mut file = [0u8; 65536];
     let n = read_full(&mut opened, &mut file)?;
-    if n <= 65536 {
-        try_all(&rt, &file[..n])?;
-    }
+    try_all(&rt, &file[..n])?;
     block_bounds(&rt)?;
     format_bounds(&rt)?;
     version_bounds(&rt)

@@ -11,11 +11,10 @@ use lib.ListN.{length, take, drop}
 use lib.Seq.{drop-drop}
 use Rattle.basics.specs.Bits.{byte_bits}
 use Rattle.basics.proofs.Bits.{length_byte_bits}
-use Rattle.tables.specs.Tables.{most_payload, most_list}
 use Rattle.stream.specs.Stream.{body_width}
 use Rattle.parse.specs.declared.Progress.{Progress}
 use Rattle.parse.specs.Parse.{characters, End, Refusal, head_width, ends, front, Parsed, Message, Fault, in_front, parse, most_data, message}
-use Rattle.parse.specs.Steps.{Load, StepAsks, Stepped, FillReads}
+use Rattle.parse.specs.Steps.{Load, Stepped, FillReads}
 use Rattle.parse.proofs.Front.{segment_whole, parse_segment, parse_refusal, parse_end}
 use Rattle.parse.proofs.Heads.{left_bits, going}
 use Rattle.parse.proofs.Load.{load_none, load_more, load_enough}
@@ -58,10 +57,6 @@ module _ (codewords : List ℕ) (v : ℕ) (payload₀ list₀ : List ℕ) where
       }
 
   module _ (payload list : List ℕ) (p : Progress) (f : Filling codewords v payload₀ list₀ payload list p) where
-    pub filling_asks : length codewords ≤ most_data v → most_payload ≤ length payload₀ → most_list ≤ length list₀ → ends (drop p.cursor.at (byte_bits codewords)) ≡ false
-        → StepAsks codewords v p payload list
-    filling_asks s h l g = record { short = s; goes = g; load = f.load; rooms = omega (arith, f.long); numbers = omega (arith, f.longs) }
-
     -- the fuel is not spent
     heads_few : (t : Bool) → cond t 12 15 * p.segments ≤ p.cursor.at → p.segments ≤ p.cursor.at
     heads_few true h = omega arith

@@ -37,10 +37,9 @@ pub record Walked (v : ℕ) (rows m : List ℕ) (k n : ℕ) (out : List ℕ) : T
   pub front : take n out ≡ passed v rows m k
 
 -- what the walk over a matrix needs
-pub record Ready (v : ℕ) (m kinds rows out : List ℕ) : Type 0 where
+pub record Ready (v : ℕ) (m kinds rows : List ℕ) : Type 0 where
   pub least : 1 ≤ v
   pub most : v ≤ last_version
   pub matrix : length m ≡ side v * side v
   pub marked : DataMap v kinds
   pub flips : most_side ≤ length rows
-  pub enough : side v * side v ≤ length out

@@ -31,13 +31,6 @@ pub struct Copy {
     pub readable: u32,
 }
 
-// A place of the matrix.
-#[derive(Clone, Copy)]
-struct At {
-    row: usize,
-    column: usize,
-}
-
 // A module with the flips of its row taken off: bit j for column j.
 fn unmask(x: u8, row: u64, j: usize) -> u8
     requires { j < 64 }
@@ -50,50 +43,61 @@ fn unmask(x: u8, row: u64, j: usize) -> u8
     }
 }
 
-// A module is met: a data module is put behind the first n. How many there are then.
-fn meet(m: &[u8], kinds: &[u8], rows: &[u64], v: usize, at: At, out: &mut [u8], n: usize) -> usize
-    requires ready { Ready v m.now kinds.now rows.now out.old × ((at.row < side_of v) × (at.column < side_of v)) }
-    requires room { n < length out.old }
-    ensures long { length out.new ≡ length out.old }
-    ensures walked { (k : ℕ) → at.row * side_of v + at.column ≡ walk (side_of v) k → Walked v rows.now m.now k n out.old → Walked v rows.now m.now (k + 1) result out.new }
-{
-    let p = at.row * tables::side(v) + at.column;
-    if kinds[p] != DATA {
-        return n;
-    }
-    out[n] = unmask(m[p], rows[at.row], at.column);
-    n + 1
+// A matrix beside the kinds of its modules and the flips of its rows.
+#[derive(Clone, Copy)]
+struct Matrix<'a> {
+    m: &'a [u8],
+    kinds: &'a [u8],
+    rows: &'a [u64],
+    v: usize,
+    ghost ready: { Ready v m.now kinds.now rows.now },
 }
 
-// The data modules of column pair q, put behind the first n. How many there are then.
-fn pair(m: &[u8], kinds: &[u8], rows: &[u64], v: usize, q: usize, out: &mut [u8], n: usize) -> usize
-    requires ready { Ready v m.now kinds.now rows.now out.old × (2 * q + 2 < side_of v) }
-    requires walked { Walked v rows.now m.now (q * (2 * side_of v)) n out.old }
-    ensures { (length out.new ≡ length out.old) × Walked v rows.now m.now (q * (2 * side_of v) + 2 * side_of v) result out.new }
-{
-    let s = tables::side(v);
-    let right = modules::pair_column(s, q);
-    let mut count = n;
-    for t in 0..s {
-        let row = modules::pair_row(s, q, t);
-        for column in [right, right - 1] {
-            count = meet(m, kinds, rows, v, At { row, column }, out, count);
+impl Matrix<'_> {
+    // A module is met: a data module is put behind the first n. How many there are then.
+    fn meet(self, row: usize, column: usize, out: &mut [u8], n: usize) -> usize
+        requires inside { (row < side_of self.v) × (column < side_of self.v) }
+        requires room { n < length out.old }
+        ensures long { length out.new ≡ length out.old }
+        ensures walked { let x = self.entry in (k : ℕ) → row * side_of x.v + column ≡ walk (side_of x.v) k → Walked x.v x.rows.now x.m.now k n out.old → Walked x.v x.rows.now x.m.now (k + 1) result out.new }
+    {
+        let p = row * tables::side(self.v) + column;
+        if self.kinds[p] != DATA {
+            return n;
         }
+        out[n] = unmask(self.m[p], self.rows[row], column);
+        n + 1
     }
-    count
-}
 
-// The data modules in their order, at the front of `out`. How many there are.
-fn walk(m: &[u8], kinds: &[u8], rows: &[u64], v: usize, out: &mut [u8]) -> usize
-    requires { Ready v m.now kinds.now rows.now out.old }
-    ensures { (length out.new ≡ length out.old) × Walked v rows.now m.now (side_of v * (side_of v - 1)) result out.new }
-{
-    let s = tables::side(v);
-    let mut n = 0;
-    for q in 0..(s - 1) / 2 {
-        n = pair(m, kinds, rows, v, q, out, n);
+    // The data modules of column pair q, put behind the first n. How many there are then.
+    fn pair(self, q: usize, out: &mut [u8], n: usize) -> usize
+        requires ready { (2 * q + 2 < side_of self.v) × (side_of self.v * side_of self.v ≤ length out.old) }
+        requires walked { Walked self.v self.rows.now self.m.now (q * (2 * side_of self.v)) n out.old }
+        ensures { let x = self.entry in (length out.new ≡ length out.old) × Walked x.v x.rows.now x.m.now (q * (2 * side_of x.v) + 2 * side_of x.v) result out.new }
+    {
+        let s = tables::side(self.v);
+        let right = modules::pair_column(s, q);
+        let mut count = n;
+        for t in 0..s {
+            let row = modules::pair_row(s, q, t);
+            for column in [right, right - 1] {
+                count = self.meet(row, column, out, count);
+            }
+        }
+        count
     }
-    n
+
+    // The data modules in their order, at the front of `out`. How many there are.
+    fn walk(self, out: &mut [u8]) -> usize
+        requires { side_of self.v * side_of self.v ≤ length out.old }
+        ensures { let x = self.entry in (length out.new ≡ length out.old) × Walked x.v x.rows.now x.m.now (side_of x.v * (side_of x.v - 1)) result out.new }
+    {
+        let mut n = 0;
+        for q in 0..(tables::side(self.v) - 1) / 2 {
+            n = self.pair(q, out, n);
+        }
+        n
+    }
 }
 
 // Where a mask flips each row.
@@ -113,7 +117,13 @@ fn gather(m: &[u8], v: usize, mask: usize, out: &mut [u8]) -> usize
     let mut kinds = [0u8; MOST_MODULES];
     modules::kinds(v, &mut kinds);
     let rows = flip_rows(mask);
-    walk(m, &kinds, &rows, v, out)
+    let matrix = Matrix {
+        m,
+        kinds: &kinds,
+        rows: &rows,
+        v,
+    };
+    matrix.walk(out)
 }
 
 // A copy with one bit more, below the others.

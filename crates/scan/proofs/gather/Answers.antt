@@ -13,16 +13,17 @@ use Rattle.scan.proofs.Maps.{kinds_map}
 use Rattle.scan.proofs.Whole.{received_passed}
 use Rattle.scan.proofs.gather.Goals as goal
 
-pub walk-requires : goal.walk-requires
-walk-requires c =
+pub invariant_of-matrix : goal.invariant_of-matrix
+invariant_of-matrix c =
     let v : ℕ = c.args.v in
     record {
-      least = c.requires.le_v.0;
-      most = c.requires.le_v.1.0;
-      matrix = c.requires.m_len.0;
-      marked = subst⁻¹ (λ (k : List ℕ). DataMap v k) c.kinds.ensures (kinds_map v _);
-      flips = omega (arith, ap length c.flip_rows-rows.ensures, build_length (row_flips c.args.mask) most_side);
-      enough = c.requires.m_len.1;
+      ready = record {
+        least = c.requires.le_v.0;
+        most = c.requires.le_v.1.0;
+        matrix = c.requires.m_len.0;
+        marked = subst⁻¹ (λ (k : List ℕ). DataMap v k) c.kinds.ensures (kinds_map v _);
+        flips = omega (arith, ap length c.flip_rows-rows.ensures, build_length (row_flips c.args.mask) most_side);
+      };
     }
 
 pub returns : goal.returns
