@@ -1,9 +1,9 @@
--- `reader::finish` meets its contract: the blocks decide, and then the stream.
+-- `reader::Symbol::finish` meets its contract: the blocks decide, and then the stream.
 use Rattle.std.proofs.Common.{refl, Ok, Err}
 use Rattle.std.proofs.lemmas.Result.{err_from_is_err_and}
 use Rattle.reader.proofs.Data.{within_long}
 use Rattle.reader.proofs.Telling.{beyond, told}
-use Rattle.reader.proofs.finish.Goals as goal
+use Rattle.reader.proofs.Symbol.finish.Goals as goal
 
 pub returns-in_err-sums : goal.returns-in_err-sums
 returns-in_err-sums c =
@@ -11,7 +11,7 @@ returns-in_err-sums c =
     rw (p.1, p.2) (beyond _ _ _ _ _ _ _ c.in_err-sums.ensures)
 
 pub parse-requires : goal.parse-requires
-parse-requires c = (within_long _ _ _ _ _ c.requires.lawful.0 c.in_ok-sums.ensures, c.requires.most_payload_in_bounds)
+parse-requires c = (within_long _ _ _ _ _ c.args.self.lawful c.in_ok-sums.ensures, c.requires.most_payload_in_bounds)
 
 pub returns-in_err-sizes : goal.returns-in_err-sizes
 returns-in_err-sizes c =

@@ -1,6 +1,6 @@
--- `reader::find_format` meets its contract: each of the five cases is one law.
+-- `reader::Matrix::find_format` meets its contract: each of the five cases is one law.
 use Rattle.reader.proofs.Words.{neither, by_second, by_first, by_both, different}
-use Rattle.reader.proofs.find_format.Goals as goal
+use Rattle.reader.proofs.Matrix.find_format.Goals as goal
 
 pub returns-in-None-None : goal.returns-in-None-None
 returns-in-None-None c =
