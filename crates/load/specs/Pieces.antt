@@ -5,9 +5,9 @@ use Rattle.load.specs.declared.Next.{Next}
 use Rattle.load.specs.declared.Next.TheVariants.{Behind, Ended}
 
 -- what an opening answers: a file is open on every descriptor that it got, 0 too
-abbrev pub opens : {E : Type 0} → Result File E → Option File
-opens (Ok file) = Some file
-opens (Err e) = None
+abbrev pub opened_file : {E : Type 0} → Result File E → Option File
+opened_file (Ok file) = Some file
+opened_file (Err e) = None
 
 -- what a read that is handed n bytes may answer: an error, or how many bytes it moved, at most n
 abbrev pub Moved : {E : Type 0} → ℕ → Result ℕ E → Type 0

@@ -6,7 +6,7 @@ ghost use Rattle.io.specs.Counts.{IsPrefixLen};
 ghost use Rattle.text.specs.Text.{most_text};
 ghost use Rattle.symbolfile.specs.SymbolFile.{most_file};
 ghost use Rattle.load.specs.Loaded.{Within, LoadedPrinted};
-ghost use Rattle.load.specs.Pieces.{opens, Moved, PieceEnd, after_read, Follows};
+ghost use Rattle.load.specs.Pieces.{opened_file, Moved, PieceEnd, after_read, Follows};
 
 use std::fs::File;
 use std::io;
@@ -25,7 +25,7 @@ const PIECE: usize = 4096;
 
 // The file that was opened, on whatever descriptor, 0 too.
 fn file_of(opened: io::Result<File>) -> Option<File>
-    ensures { result ≡ opens opened }
+    ensures { result ≡ opened_file opened }
 {
     opened.ok()
 }

@@ -3,7 +3,7 @@ use mathlib.Core.Path.{◌≡◌, refl, sym, ap, ◌∙◌}
 use mathlib.Core.Bool.{Bool, true, false, cond, not, ◌&&◌, ◌||◌}
 use mathlib.Core.Logic.{by_cases}
 use native.Mathlib.Decide.{ℕ_discrete}
-use Rattle.modules.proofs.Kept.{not_both}
+use Rattle.std.proofs.Math.Bool.{or_assoc}
 use mathlib.Core.List.{List, [], ◌∷◌, ◌++◌, map}
 use Prim.Native.Nat.{ℕ, zero, suc, ◌+◌, ◌-◌, ◌*◌, ◌/◌, ◌%◌, ◌≤◌, ◌<◌}
 use native.Mathlib.Nat.{mul-add-div_right, mul-add-mod_self_right, div-eq_of_lt, mod-eq_of_lt, mul-le-mul_right, add-zero, le_of_lt, add-mul, mul_assoc, mul_left_comm}
@@ -31,10 +31,6 @@ pub number_more : (bs : List ℕ) (t : ℕ) → t < length bs → number (take (
 unfolding number number_after
 number_more bs t h = rw (add-one, take-suc bs t 0 h) (number_after_append 0 (take t bs) (get_or bs t 0 ∷ []))
 
-or_assoc : (a b c : Bool) → (a || b) || c ≡ a || (b || c)
-or_assoc true b c = refl
-or_assoc false b c = refl
-
 any_append : (test : ℕ → Bool) (xs ys : List ℕ) → any test (xs ++ ys) ≡ any test xs || any test ys
 unfolding any
 any_append test [] ys = refl
@@ -52,12 +48,12 @@ readable_more bs t h =
     rw (add-one, take-suc bs t 0 h, any_append (eqb 2) (take t bs) (get_or bs t 0 ∷ [])) (sym (none_or (any (eqb 2) (take t bs)) (get_or bs t 0)))
 
 true_or : (a b : Bool) → a ≡ true → a || b ≡ false → ⊥
-true_or true b p q = not_both (sym q)
-true_or false b p q = not_both p
+true_or true b p q = cc
+true_or false b p q = cc
 
-later : (a b : Bool) → a || b ≡ false → b ≡ false
-later true b e = absurd (not_both (sym e))
-later false b e = e
+or_false_right : (a b : Bool) → a || b ≡ false → b ≡ false
+or_false_right true b e = absurd (cc)
+or_false_right false b e = e
 
 -- modules that can all be read are bits
 pub all_read : (bs : List ℕ) → AtMost 2 bs → any (eqb 2) bs ≡ false → AtMost 1 bs
@@ -66,8 +62,7 @@ all_read [] h e k l = absurd (omega arith)
 all_read (x ∷ xs) h e zero l =
     let n : ¬ (2 ≡ x) = λ q. true_or (eqb 2 x) (any (eqb 2) xs) (eq-eqb 2 x q) e in
     omega (arith, h 0 (omega arith))
-all_read (x ∷ xs) h e (suc k) l =
-    all_read xs (λ i r. h (suc i) (omega arith)) (later (eqb 2 x) (any (eqb 2) xs) e) k (omega arith)
+all_read (x ∷ xs) h e (suc k) l = all_read xs (λ i r. h (suc i) (omega arith)) (or_false_right (eqb 2 x) (any (eqb 2) xs) e) k (omega arith)
 
 -- what is written of a codeword that was read, and of its flag
 pub word_of : (bs : List ℕ) (q : ℕ) (r : Option ℕ) → EightRead (eight bs q) r → unwrap_or r 0 ≡ codeword bs q
