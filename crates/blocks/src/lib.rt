@@ -65,6 +65,7 @@ fn add_checks(words: &mut [u8], v: usize, level: usize)
     ensures { words.new ≡ data_then_checks v level (take (data_count v level) words.old) }
 {
     let n = tables::checks(v, level);
+    // places are carried from block to block: the blocks have two lengths, so no `chunks` cuts them, and `tables::block_start` divides twice at each call
     let mut a: usize = 0;
     let mut c = tables::data(v, level);
     for b in 0..tables::blocks(v, level) {
@@ -95,6 +96,7 @@ fn deal_blocks(words: &[u8], v: usize, level: usize, out: &mut [u8])
     ensures { out.new ≡ sent v level (take (data_count v level) words.now) }
 {
     let n = tables::checks(v, level);
+    // places are carried, as in `add_checks`
     let mut a: usize = 0;
     let mut c = tables::data(v, level);
     for b in 0..tables::blocks(v, level) {
@@ -134,6 +136,7 @@ pub fn gather(received: &[u8], v: usize, level: usize, out: &mut [u8])
     requires { Lawful v level × ((length received.now ≡ total v) × (length out.old ≡ total v)) }
     ensures { out.new ≡ gathered_all v level (λ q. get_or received.now q 0) }
 {
+    // the place is carried, as in `add_checks`
     let mut a: usize = 0;
     for block in 0..tables::blocks(v, level) {
         let e = a + tables::block_length(v, level, block);
@@ -149,6 +152,7 @@ pub fn take_data(blocks: &[u8], v: usize, level: usize, out: &mut [u8])
     ensures { out.new ≡ data_of v level (block_of v level blocks.now) }
 {
     let checks = tables::checks(v, level);
+    // places are carried, as in `add_checks`
     let mut w: usize = 0;
     let mut a: usize = 0;
     for b in 0..tables::blocks(v, level) {

@@ -1,6 +1,8 @@
 -- Loops over a fixed number of coefficients.
 --     fill_none, fill_more, fill_all   a buffer of zeros that is filled from the front
 --     build_same                       two lists that are built of equal entries
+--     rooted_first, rooted_later       a coefficient of a product with (x − a), by cases
+--     build_zero                       a list that is built, and a 0 behind it
 --     cut_padded                       a list that is built, cut after the first n entries and filled up with zeros
 use mathlib.Core.Path.{◌≡◌, refl, sym, ap₂, ◌∙◌}
 use mathlib.Core.List.{List, [], ◌∷◌, ◌++◌, append-nil}
@@ -14,7 +16,10 @@ use Rattle.std.proofs.lemmas.List.{drop_all}
 use Rattle.basics.specs.Build.{build}
 use Rattle.basics.proofs.Build.{build_get, build_length}
 use borrow.Rule.Slice.PartMut.{put_mid}
-use Rattle.code.specs.Lanes.{padded}
+use Rattle.field.specs.Field.{mul_n}
+use Rattle.std.specs.Int.Bits.{bit_xor}
+use Rattle.std.specs.Prelude.{get_or}
+use Rattle.code.specs.Lanes.{padded, rooted}
 
 pub build_same : (f g : ℕ → ℕ) (n : ℕ) → ((k : ℕ) → k < n → f k ≡ g k) → build f n ≡ build g n
 unfolding build
@@ -55,3 +60,19 @@ unfolding padded
 cut_padded f n m all zeros h e z =
     let past : drop (m - n) (drop n (build f m)) ≡ [] = drop_all (m - n) (drop n (build f m)) (simp (length-drop, build_length) (omega arith)) in
     rw (e, z, take_build f n m h, build_length f n, past, append-nil (replicate {A = ℕ} (m - n) 0))
+
+-- the coefficients of a product with (x − a), by cases
+pub rooted_first : (g : List ℕ) (a k : ℕ) → k ≡ 0 → rooted g a k ≡ get_or g 0 0
+unfolding rooted
+rooted_first g a zero h = refl
+rooted_first g a (suc k) h = absurd (omega arith)
+
+pub rooted_later : (g : List ℕ) (a k : ℕ) → 0 < k → rooted g a k ≡ bit_xor (get_or g k 0) (mul_n a (get_or g (k - 1) 0))
+unfolding rooted
+rooted_later g a zero h = absurd (omega arith)
+rooted_later g a (suc k) h = let e : suc k - 1 ≡ k = omega arith in rw e
+
+-- a list that is built, and a 0 behind it
+pub build_zero : (h f : ℕ → ℕ) (n : ℕ) → ((k : ℕ) → k < n → h k ≡ f k) → h n ≡ 0 → build h (suc n) ≡ build f n ++ replicate 1 0
+unfolding build
+build_zero h f n same last = ap₂ (λ (l : List ℕ) (x : ℕ). l ++ (x ∷ [])) (build_same h f n same) last

@@ -9,8 +9,8 @@ ghost use Rattle.code.specs.Lanes.{lanes, coefficients, rooted, reduced, padded,
 
 use std::array;
 
-// The coefficients that a loop takes together: more than any block has checks, and a whole number of vectors.
-const LANES: usize = 32;
+// The coefficients that are worked on together: more than any block has checks, and a whole number of vectors.
+pub const LANES: usize = 32;
 
 // A polynomial of a degree up to LANES, the highest power first.
 const COEFFICIENTS: usize = LANES + 1;
@@ -19,11 +19,11 @@ const COEFFICIENTS: usize = LANES + 1;
 fn times_root(g: [u8; COEFFICIENTS], a: u8) -> [u8; COEFFICIENTS]
     ensures { result ≡ build (rooted g a) coefficients }
 {
-    let mut r = g;
-    for k in 0..LANES {
-        r[k + 1] = g[k + 1] ^ field::mul(a, g[k]);
-    }
-    r
+    array::from_fn(|k| if k == 0 {
+        g[0]
+    } else {
+        g[k] ^ field::mul(a, g[k - 1])
+    })
 }
 
 // The generator for n checks, the highest power first.
@@ -46,11 +46,11 @@ fn reduce(r: [u8; COEFFICIENTS], g: [u8; COEFFICIENTS], d: u8) -> [u8; COEFFICIE
     ensures { result ≡ build (reduced r g d) lanes ++ replicate 1 0 }
 {
     let c = d ^ r[0];
-    let mut s: [u8; COEFFICIENTS] = [0; COEFFICIENTS];
-    for k in 0..LANES {
-        s[k] = r[k + 1] ^ field::mul(c, g[k + 1]);
-    }
-    s
+    array::from_fn(|k| if k < LANES {
+        r[k + 1] ^ field::mul(c, g[k + 1])
+    } else {
+        0
+    })
 }
 
 // The remainder of the data times x^n: its n checks, and zeros behind them.
@@ -62,6 +62,7 @@ pub fn remainder(held: &[u8], n: usize) -> [u8; COEFFICIENTS]
     let g = generator(n);
     let mut r: [u8; COEFFICIENTS] = [0; COEFFICIENTS];
     for codeword in held {
+        // by a name in between: a call's result that goes straight into an array of the loop has no proof rule
         let next = reduce(r, g, *codeword);
         r = next;
     }
@@ -78,7 +79,7 @@ pub fn checks_into(held: &[u8], out: &mut [u8])
     out.copy_from_slice(&r[..n]);
 }
 
-// 1, 2, 4 and so on: the 32 first powers of 2 in the field.
+// 1, 2, 4 and so on: the 32 first powers of 2 in the field, worked out once for a word. The corrector has a constant, which costs each of its searches no doublings.
 fn powers() -> [u8; LANES]
     ensures { result ≡ build pow_n lanes }
 {
@@ -91,20 +92,21 @@ fn powers() -> [u8; LANES]
     p
 }
 
-// Each value times its power, and the next codeword c added to each.
+// Each value times its power, and the next codeword c added to each. `corrector::times_plus` adds a row, lane by lane: here no row is made of the codeword.
 fn horner(s: [u8; LANES], p: [u8; LANES], c: u8) -> [u8; LANES]
     ensures { result ≡ build (hornered s p c) lanes }
 {
     array::from_fn(|k| field::mul(s[k], p[k]) ^ c)
 }
 
-// The values of the word at the 32 first powers of 2.
+// The values of the word at the 32 first powers of 2. `corrector::values` is of a polynomial in lanes, the lowest coefficient first, at any places.
 fn values(word: &[u8]) -> [u8; LANES]
     ensures { result ≡ build (λ i. value (pow_n i) word.now) lanes }
 {
     let p = powers();
     let mut s: [u8; LANES] = [0; LANES];
     for codeword in word {
+        // by a name in between, as in `remainder`
         let next = horner(s, p, *codeword);
         s = next;
     }

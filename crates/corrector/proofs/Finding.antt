@@ -23,7 +23,7 @@ use Rattle.theory.proofs.Complete.{covers, fits}
 use Rattle.theory.proofs.Gf.{gf256, locators, locators_apart}
 use Rattle.theory.proofs.Values.{product, product_monic, product_root, evaluator, slope, magnitude}
 use Rattle.code.specs.Code.{Stands, unreadable}
-use Rattle.code.proofs.Bridge.{word, Bytes, codeword_sums, syndromes_sum}
+use Rattle.code.proofs.Bridge.{word, codeword_sums, syndromes_sum}
 use Rattle.code.proofs.Places.{places_has, wrong, length_wrong}
 use Rattle.code.proofs.Distance.{elt_same}
 use Rattle.corrector.specs.Lanes.{poly, Running}
@@ -52,8 +52,9 @@ and_right false b e = absurd (false_true e)
 
 -- what the code knows once it has listed the suspected places of a block
 pub record Traced (w flags s left a b : List ℕ) (n e i l f : ℕ) (at xs : List ℕ) (count : ℕ) : Type 0 where
+  pub flagged : length flags ≡ length w
+  pub short : length flags ≤ 255
   pub asked : Asked w flags s n e
-  pub bytes : Bytes w
   pub folded : Erased s flags left
   pub run : Running left i l a b f
   pub whole : i + l ≡ n - e
@@ -74,7 +75,7 @@ module _ {w flags s left a b : List ℕ} {n e i l f : ℕ} {at xs : List ℕ} {c
 
   -- the sums of the block's word
   sums : (h : ℕ) → h < n → poly s h ≡ psum gf256 N X (word w) h
-  sums h l = ap (λ t. poly t h) k.asked.sums ∙ syndromes_sum n h w l k.bytes ∙ ap (λ m. psum gf256 m (locators m) (word w) h) (sym k.asked.flagged)
+  sums h l = ap (λ t. poly t h) k.asked.sums ∙ syndromes_sum n h w l k.asked.bytes ∙ ap (λ m. psum gf256 m (locators m) (word w) h) (sym k.flagged)
 
   missing : length unreadables ≡ e
   unfolding marked unreadable
@@ -132,10 +133,10 @@ module _ {w flags s left a b : List ℕ} {n e i l f : ℕ} {at xs : List ℕ} {c
         go false p q d = inr (Memᴰ.append_left (wrong w flags c) (picked_has (marked flags) N j l (ap not p)))
         go true p true d = inl (ap elt (eqb-true _ _ d))
         go true p false d =
-            inr (Memᴰ.append_right unreadables (places_has (λ j. eqb (get_or flags j 0) 0 && not (eqb (get_or w j 0) (get_or c j 0))) (length w) j (omega (arith, k.asked.flagged)) (true_T {b = eqb (get_or flags j 0) 0 && not (eqb (get_or w j 0) (get_or c j 0))} (ap₂ (λ x y. x && not y) p d))))
+            inr (Memᴰ.append_right unreadables (places_has (λ j. eqb (get_or flags j 0) 0 && not (eqb (get_or w j 0) (get_or c j 0))) (length w) j (omega (arith, k.flagged)) (true_T {b = eqb (get_or flags j 0) 0 && not (eqb (get_or w j 0) (get_or c j 0))} (ap₂ (λ x y. x && not y) p d))))
 
     codeword : (h : ℕ) → h < n → psum gf256 N X (word c) h ≡ 𝟘
-    codeword h l = ap (λ m. psum gf256 m (locators m) (word c) h) (k.asked.flagged ∙ sym st.long) ∙ codeword_sums st.codeword h l
+    codeword h l = ap (λ m. psum gf256 m (locators m) (word c) h) (k.flagged ∙ sym st.long) ∙ codeword_sums st.codeword h l
 
     few : length (wrong w flags c) + length (wrong w flags c) ≤ n - e
     few = omega (arith, length_wrong w flags c, st.differs, st.missing, st.near, k.asked.missing)
@@ -144,7 +145,7 @@ module _ {w flags s left a b : List ℕ} {n e i l f : ℕ} {at xs : List ℕ} {c
     read h l = k.folded.each h ∙ erase_all_window gf256 X unreadables (n - e) (λ q m. sums q (omega (arith, missing, k.asked.few))) h l
 
     apart : Apart gf256 N X
-    apart = locators_apart N (omega (arith, k.asked.flagged, k.asked.short))
+    apart = locators_apart N (omega (arith, k.flagged, k.short))
 
     -- the codeword differs from the word within the suspected places, and they are few
     within : Agree gf256 N listed (word w) (word c)
@@ -198,7 +199,7 @@ module _ {w flags s left a b : List ℕ} {n e i l f : ℕ} {at xs : List ℕ} {c
         ∙ ⊎_elim
         (λ p. p)
         (λ p. absurd (let o = taken_at count at j (subst (λ t. Memᴰ j t) (sym (is_listed whole)) p) in q.1 o.0 o.1 o.2))
-        (within j (omega (arith, k.asked.flagged))))
+        (within j (omega (arith, k.flagged))))
         (λ q.
         ap elt q.3
         ∙ elt_add _ _

@@ -4,10 +4,9 @@ use Rattle.corrector.specs.declared.Counts.{Counts}
 use Rattle.code.specs.Code.{Stands, unreadable, syndromes_of}
 use Rattle.code.specs.Lanes.{lanes, padded}
 
--- a block with a flag for each codeword, its syndromes, and how many codewords are unreadable, no more than there are checks
+-- the syndromes of a block's word, and how many codewords are unreadable, no more than there are checks
 pub record Asked (word flags s : List ℕ) (n e : ℕ) : Type 0 where
-  pub flagged : length flags ≡ length word
-  pub short : length word ≤ 255
+  pub bytes : (j : ℕ) → j < length word → get_or word j 0 < 256
   pub checks : n ≤ 30
   pub missing : e ≡ unreadable flags
   pub few : e ≤ n

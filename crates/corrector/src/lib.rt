@@ -147,151 +147,58 @@ fn without(s: Row, flag: u8, x: u8) -> Row
     }
 }
 
-// The sums, with each unreadable place taken out.
-fn erased(s: Row, flags: &[u8]) -> Row
-    requires { length flags.now ≤ 255 }
-    ensures { Erased s flags.now result }
-{
-    let mut r = s;
-    let mut x: u8 = 1;
-    for flag in flags.iter().rev() {
-        let next = without(r, *flag, x);
-        r = next;
-        x = field::dbl(x);
-    }
-    r
+// A polynomial, and a number of coefficients past which all are 0.
+#[derive(Clone, Copy)]
+struct Polynomial {
+    row: Row,
+    many: usize,
+    ghost narrow: { many ≤ 32 },
+    ghost below: { Below gf256 many (poly row) },
 }
 
-// The places of a block that may differ from its codeword, the greatest first, and their locators. A count of 31 says that there are more than 30.
-// The two rows have a count beside them: there is no heap, and the locators are lanes that are worked on together.
-#[derive(Drop)]
-struct Listed {
-    at: Row,
-    xs: Row,
-    count: usize,
-}
+impl Polynomial {
+    // The sums s multiplied by the polynomial: at a root of it, what its quotient makes of the sums.
+    fn evaluator(self, s: Row) -> Polynomial
+        requires { 0 < self.many }
+        ensures { (result.many + 1 ≡ self.many) × ((h : ℕ) → poly result.row h ≡ evaluator_of gf256 32 (poly self.row) (poly s) h) }
+    {
+        let mut r: Row = [0; LANES];
+        for (k, sum) in s[..self.many - 1].iter().enumerate() {
+            let next = times_plus(lower(self.row, k + 1), [*sum; LANES], r);
+            r = next;
+        }
+        Polynomial {
+            row: r,
+            many: self.many - 1,
+        }
+    }
 
-// The places, and the place j with the locator x where it is unreadable or the polynomial is 0 there.
-fn noted(found: Listed, flag: u8, v: u8, j: usize, x: u8) -> Listed
-    requires { (j < 255) × (found.count ≤ 31) }
-    ensures { (result.count ≤ 31) × Noted flag v j x found.at found.xs found.count result.at result.xs result.count }
-{
-    if flag == 0 && v != 0 {
-        return found;
+    // What it is at each of the xs.
+    fn values(self, xs: Row) -> Row
+        ensures { (i : ℕ) → i < 32 → poly result i ≡ eval gf256 32 (poly self.row) (poly xs i) }
+    {
+        let mut r: Row = [0; LANES];
+        for coefficient in self.row[..self.many].iter().rev() {
+            let next = times_plus(r, xs, [*coefficient; LANES]);
+            r = next;
+        }
+        r
     }
-    if found.count == 31 {
-        return found;
-    }
-    // taken apart: written in place, a correction takes 1.2 percent more instructions
-    let Listed {
-        mut at,
-        mut xs,
-        count,
-    } = found;
-    at[count] = j as u8;
-    xs[count] = x;
-    Listed {
-        at,
-        xs,
-        count: count + 1,
-    }
-}
 
-// 2 to the powers 0 to 31.
-const POWERS: Row = [
-    1, 2, 4, 8, 16, 32, 64, 128, 29, 58, 116, 232, 205, 135, 19, 38, 76, 152, 45, 90, 180, 117,
-    234, 201, 143, 3, 6, 12, 24, 48, 96, 192,
-];
-
-// The places below top from the greatest down, many of them, with the locators xs and the values vs of a polynomial there.
-fn grouped(found: Listed, flags: &[u8], vs: Row, xs: Row, top: usize, many: usize) -> Listed
-    requires { (found.count ≤ 31) × (length flags.now ≤ 255) × (top ≤ length flags.now) × (many ≤ top) × (many ≤ 32) }
-    ensures { Grouped flags.now vs xs top many found.at found.xs found.count result.at result.xs result.count }
-{
-    let mut list = found;
-    for i in 0..many {
-        let j = top - 1 - i;
-        list = noted(list, flags[j], vs[i], j, xs[i]);
+    // What its quotient by the variable minus x is at x, for each x of the xs.
+    fn slopes(self, xs: Row) -> Row
+        ensures { (i : ℕ) → i < 32 → poly result i ≡ slope gf256 32 (poly self.row) (poly xs i) }
+    {
+        let mut r: Row = [0; LANES];
+        let mut p: Row = [0; LANES];
+        for coefficient in self.row[..self.many].iter().rev() {
+            let slope = times_plus(r, xs, p);
+            r = slope;
+            let value = times_plus(p, xs, [*coefficient; LANES]);
+            p = value;
+        }
+        r
     }
-    list
-}
-
-// The unreadable places and those where the polynomial a, of at most m coefficients, is 0: 32 places at a time, from the last place down.
-fn suspected(flags: &[u8], a: Row, m: usize) -> Listed
-    requires { (length flags.now ≤ 255) × (m ≤ 32) × Below gf256 m (poly a) }
-    ensures { Found flags.now a 0 result.at result.xs result.count }
-{
-    let zeros: Row = [0; LANES];
-    let mut found = Listed {
-        at: zeros,
-        xs: zeros,
-        count: 0,
-    };
-    let mut xs = POWERS;
-    for group in 0..flags.len().div_ceil(LANES) {
-        let top = flags.len() - group * LANES;
-        found = grouped(found, flags, values(a, m, xs), xs, top, top.min(LANES));
-        // 157 is 2 to the power 32
-        let next = times_plus(xs, [157; LANES], zeros);
-        xs = next;
-    }
-    found
-}
-
-// The product of the variable minus each of the first count locators.
-fn locator(xs: Row, count: usize) -> Row
-    requires { count ≤ 30 }
-    ensures { (h : ℕ) → poly result h ≡ product gf256 (poly xs) count h }
-{
-    let mut r: Row = [0; LANES];
-    r[0] = 1;
-    for x in &xs[..count] {
-        let next = times_plus(r, [*x; LANES], raise(r, 1));
-        r = next;
-    }
-    r
-}
-
-// The sums s multiplied by the polynomial a: at a root of a, what its quotient makes of the sums.
-fn evaluator(a: Row, s: Row, count: usize) -> Row
-    requires { (count ≤ 31) × Below gf256 (suc count) (poly a) }
-    ensures { (h : ℕ) → poly result h ≡ evaluator_of gf256 32 (poly a) (poly s) h }
-{
-    let mut r: Row = [0; LANES];
-    for (k, sum) in s[..count].iter().enumerate() {
-        let next = times_plus(lower(a, k + 1), [*sum; LANES], r);
-        r = next;
-    }
-    r
-}
-
-// What the polynomial a, of at most m coefficients, is at each of the xs.
-fn values(a: Row, m: usize, xs: Row) -> Row
-    requires { (m ≤ 32) × Below gf256 m (poly a) }
-    ensures { (i : ℕ) → i < 32 → poly result i ≡ eval gf256 32 (poly a) (poly xs i) }
-{
-    let mut r: Row = [0; LANES];
-    for coefficient in a[..m].iter().rev() {
-        let next = times_plus(r, xs, [*coefficient; LANES]);
-        r = next;
-    }
-    r
-}
-
-// What its quotient by the variable minus x is at x, for each x of the xs.
-fn slopes(a: Row, m: usize, xs: Row) -> Row
-    requires { (m ≤ 32) × Below gf256 m (poly a) }
-    ensures { (i : ℕ) → i < 32 → poly result i ≡ slope gf256 32 (poly a) (poly xs i) }
-{
-    let mut r: Row = [0; LANES];
-    let mut p: Row = [0; LANES];
-    for coefficient in a[..m].iter().rev() {
-        let slope = times_plus(r, xs, p);
-        r = slope;
-        let value = times_plus(p, xs, [*coefficient; LANES]);
-        p = value;
-    }
-    r
 }
 
 // The inverse in each lane.
@@ -310,65 +217,89 @@ fn inverses(a: Row) -> Row
     r
 }
 
-// The word with each of the first count values added at its place.
-fn mended(word: &[u8], at: Row, values: Row, count: usize) -> [u8; 255]
-    requires { (length word.now ≤ 255) × (count ≤ 32) × ((k : ℕ) → k < count → get_or at k 0 < length word.now) }
-    ensures { Mended word.now at values count result }
-{
-    let mut r: [u8; 255] = [0; 255];
-    r[..word.len()].copy_from_slice(word);
-    for k in 0..count {
-        let j = usize::from(at[k]);
-        r[j] = word[j] ^ values[k];
+// The places of a block that may differ from its codeword, the greatest first, and their locators. A count of 31 says that there are more than 30.
+// The two rows have a count beside them: there is no heap, and the locators are lanes that are worked on together.
+#[derive(Drop)]
+struct Listed {
+    at: Row,
+    xs: Row,
+    count: usize,
+    ghost few: { count ≤ 31 },
+}
+
+impl Listed {
+    // No place.
+    fn none() -> Self
+        ensures { (result.at ≡ filled 0) × (result.xs ≡ filled 0) × (result.count ≡ 0) }
+    {
+        Listed {
+            at: [0; LANES],
+            xs: [0; LANES],
+            count: 0,
+        }
     }
-    r
-}
 
-// What is wrong at each locator of the first count, of the sums s.
-fn magnitudes(xs: Row, count: usize, s: Row) -> Row
-    requires { count ≤ 30 }
-    ensures { Magnitudes xs count s result }
-{
-    let product = locator(xs, count);
-    let sums = evaluator(product, s, count);
-    let tops = values(sums, count, xs);
-    let bottoms = slopes(product, count + 1, xs);
-    times_plus(tops, inverses(bottoms), [0; LANES])
-}
-
-// The codeword that the block stands for, where it stands for one; none where more places are suspected than a codeword within the bound leaves.
-fn proposed(word: &[u8], flags: &[u8], s: Row, n: usize, e: usize) -> Option<[u8; 255]>
-    requires { Asked word.now flags.now s n e }
-    ensures { MatchOption result (StandsForNone n word.now flags.now) (Proposed n word.now flags.now) }
-{
-    let st = run(erased(s, flags), n - e);
-    let found = suspected(flags, st.a, st.l + 1);
-    if n < found.count {
-        return None;
+    // The places, and the place j with the locator x where it is unreadable or the polynomial is 0 there.
+    fn noted(self, flag: u8, v: u8, j: usize, x: u8) -> Listed
+        requires { j < 255 }
+        ensures { Noted flag v j x self.at self.xs self.count result.at result.xs result.count }
+    {
+        if flag == 0 && v != 0 {
+            return self;
+        }
+        if self.count == 31 {
+            return self;
+        }
+        // taken apart: written in place, a correction takes 1.2 percent more instructions
+        let Listed {
+            mut at,
+            mut xs,
+            count,
+        } = self;
+        at[count] = j as u8;
+        xs[count] = x;
+        Listed {
+            at,
+            xs,
+            count: count + 1,
+        }
     }
-    let wrong = magnitudes(found.xs, found.count, s);
-    Some(mended(word, found.at, wrong, found.count))
+
+    // The product of the variable minus each of the locators.
+    fn locator(&self) -> Polynomial
+        requires { self.now.count ≤ 30 }
+        ensures { (result.many ≡ self.now.count + 1) × ((h : ℕ) → poly result.row h ≡ product gf256 (poly self.now.xs) self.now.count h) }
+    {
+        let mut r: Row = [0; LANES];
+        r[0] = 1;
+        for x in &self.xs[..self.count] {
+            let next = times_plus(r, [*x; LANES], raise(r, 1));
+            r = next;
+        }
+        Polynomial {
+            row: r,
+            many: self.count + 1,
+        }
+    }
+
+    // What is wrong at each of the places, of the sums s.
+    fn magnitudes(&self, s: Row) -> Row
+        requires { self.now.count ≤ 30 }
+        ensures { Magnitudes self.now.xs self.now.count s result }
+    {
+        let product = self.locator();
+        let sums = product.evaluator(s);
+        let tops = sums.values(self.xs);
+        let bottoms = product.slopes(self.xs);
+        times_plus(tops, inverses(bottoms), [0; LANES])
+    }
 }
 
-// How many codewords of the block are unreadable.
-fn missing(flags: &[u8]) -> usize
-    requires { length flags.now ≤ 255 }
-    ensures { result ≡ unreadable flags.now }
-{
-    flags.iter().map(|flag| usize::from(*flag != 0)).sum()
-}
-
-// How many readable codewords of the block differ from c.
-fn differ(word: &[u8], flags: &[u8], c: &[u8]) -> usize
-    requires { (length flags.now ≡ length word.now) × (length c.now ≡ length word.now) }
-    ensures { result ≡ differing word.now flags.now c.now }
-{
-    word.iter()
-        .zip(flags)
-        .zip(c)
-        .filter(|((a, flag), b)| **flag == 0 && **a != **b)
-        .count()
-}
+// 2 to the powers 0 to 31.
+const POWERS: Row = [
+    1, 2, 4, 8, 16, 32, 64, 128, 29, 58, 116, 232, 205, 135, 19, 38, 76, 152, 45, 90, 180, 117,
+    234, 201, 143, 3, 6, 12, 24, 48, 96, 192,
+];
 
 // How many codewords of a block differ from its codeword, and how many are unreadable.
 #[derive(Clone, Copy)]
@@ -377,29 +308,129 @@ pub struct Counts {
     pub unreadable: usize,
 }
 
-// Whether the block, some codewords of which are unreadable, stands for c: c is a codeword, and the bound is kept.
-fn tested(
-    word: &[u8],
-    flags: &[u8],
-    c: &[u8],
-    n: usize,
-    room: usize,
-    missing: usize,
-) -> Option<Counts>
-    requires { (length flags.now ≡ length word.now) × (length c.now ≡ length word.now) × (length word.now ≤ 255) × (n ≤ 30) × (missing ≡ unreadable flags.now) }
-    ensures { Tested n room word.now flags.now c.now result }
-{
-    if code::syndromes(c, n) != [0; LANES] {
-        return None;
+// A block: its codewords, and a flag for each, not 0 where the codeword could not be read.
+#[derive(Clone, Copy)]
+struct Block<'a> {
+    word: &'a [u8],
+    flags: &'a [u8],
+    ghost flagged: { length flags.now ≡ length word.now },
+    ghost short: { length flags.now ≤ 255 },
+}
+
+impl Block<'_> {
+    // How many codewords are unreadable.
+    fn missing(self) -> usize
+        ensures { result ≡ unreadable self.entry.flags.now }
+    {
+        self.flags.iter().map(|flag| usize::from(*flag != 0)).sum()
     }
-    let wrong = differ(word, flags, c);
-    if room < 2 * wrong + missing {
-        return None;
+
+    // How many readable codewords differ from c.
+    fn differ(self, c: &[u8]) -> usize
+        requires { length c.now ≡ length self.word.now }
+        ensures { result ≡ differing self.entry.word.now self.entry.flags.now c.now }
+    {
+        self.word
+            .iter()
+            .zip(self.flags)
+            .zip(c)
+            .filter(|((a, flag), b)| **flag == 0 && **a != **b)
+            .count()
     }
-    Some(Counts {
-        differing: wrong,
-        unreadable: missing,
-    })
+
+    // The sums, with each unreadable place taken out.
+    fn erased(self, s: Row) -> Row
+        ensures { Erased s self.entry.flags.now result }
+    {
+        let mut r = s;
+        let mut x: u8 = 1;
+        for flag in self.flags.iter().rev() {
+            let next = without(r, *flag, x);
+            r = next;
+            x = field::dbl(x);
+        }
+        r
+    }
+
+    // The places below top from the greatest down, many of them, with the locators xs and the values vs of a polynomial there.
+    fn grouped(self, found: Listed, vs: Row, xs: Row, top: usize, many: usize) -> Listed
+        requires { (top ≤ length self.flags.now) × (many ≤ top) × (many ≤ 32) }
+        ensures { Grouped self.entry.flags.now vs xs top many found.at found.xs found.count result.at result.xs result.count }
+    {
+        let mut list = found;
+        for i in 0..many {
+            let j = top - 1 - i;
+            list = list.noted(self.flags[j], vs[i], j, xs[i]);
+        }
+        list
+    }
+
+    // The unreadable places and those where the polynomial a is 0: 32 places at a time, from the last place down.
+    fn suspected(self, a: Polynomial) -> Listed
+        ensures { Found self.entry.flags.now a.row 0 result.at result.xs result.count }
+    {
+        let zeros: Row = [0; LANES];
+        let mut found = Listed::none();
+        let mut xs = POWERS;
+        for group in 0..self.flags.len().div_ceil(LANES) {
+            let top = self.flags.len() - group * LANES;
+            found = self.grouped(found, a.values(xs), xs, top, top.min(LANES));
+            // 157 is 2 to the power 32
+            let next = times_plus(xs, [157; LANES], zeros);
+            xs = next;
+        }
+        found
+    }
+
+    // The word with the value of each of the places added there.
+    fn mended(self, found: &Listed, values: Row) -> [u8; 255]
+        requires { (k : ℕ) → k < found.now.count → get_or found.now.at k 0 < length self.word.now }
+        ensures { Mended self.entry.word.now found.now.at values found.now.count result }
+    {
+        let mut r: [u8; 255] = [0; 255];
+        r[..self.word.len()].copy_from_slice(self.word);
+        for k in 0..found.count {
+            let j = usize::from(found.at[k]);
+            r[j] = self.word[j] ^ values[k];
+        }
+        r
+    }
+
+    // The codeword that the block stands for, where it stands for one; none where more places are suspected than a codeword within the bound leaves.
+    fn proposed(self, s: Row, n: usize, e: usize) -> Option<[u8; 255]>
+        requires { Asked self.word.now self.flags.now s n e }
+        ensures { MatchOption result (StandsForNone n self.entry.word.now self.entry.flags.now) (Proposed n self.entry.word.now self.entry.flags.now) }
+    {
+        let st = run(self.erased(s), n - e);
+        let row = st.a;
+        let found = self.suspected(Polynomial {
+            row,
+            many: st.l + 1,
+        });
+        if n < found.count {
+            return None;
+        }
+        let wrong = found.magnitudes(s);
+        Some(self.mended(&found, wrong))
+    }
+
+    // Whether the block, some codewords of which are unreadable, stands for c: c is a codeword, and the bound is kept.
+    fn tested(self, c: &[u8], n: usize, room: usize, missing: usize) -> Option<Counts>
+        requires { (length c.now ≡ length self.word.now) × (n ≤ 30) × (missing ≡ unreadable self.flags.now) }
+        ensures { Tested n room self.entry.word.now self.entry.flags.now c.now result }
+    {
+        if code::syndromes(c, n) != [0; LANES] {
+            return None;
+        }
+        let wrong = self.differ(c);
+        if room < 2 * wrong + missing {
+            return None;
+        }
+        Some(Counts {
+            differing: wrong,
+            unreadable: missing,
+        })
+    }
 }
 
 // The codeword that a block of n checks stands for within the room, put into the place of the word, with its counts; or none, and the word is as it was.
@@ -407,7 +438,8 @@ pub fn correct(word: &mut [u8], flags: &[u8], n: usize, room: usize) -> Option<C
     requires { (length flags.now ≡ length word.old) × (length word.old ≤ 255) × (n ≤ 30) × (room ≤ n) }
     ensures { Corrected n room word.old flags.now word.new result }
 {
-    let e = missing(flags);
+    let block = Block { word, flags };
+    let e = block.missing();
     if room < e {
         return None;
     }
@@ -418,9 +450,9 @@ pub fn correct(word: &mut [u8], flags: &[u8], n: usize, room: usize) -> Option<C
             unreadable: 0,
         });
     }
-    let fixed = proposed(word, flags, s, n, e)?;
+    let fixed = block.proposed(s, n, e)?;
     let c = &fixed[..word.len()];
-    let counts = tested(word, flags, c, n, room, e)?;
+    let counts = block.tested(c, n, room, e)?;
     word.copy_from_slice(c);
     Some(counts)
 }

@@ -81,7 +81,7 @@ pub fn format_place(v: usize, copy: usize, b: usize) -> usize
     ensures { result ≡ get_or (format_places v copy) b 0 }
 {
     let s = tables::side(v);
-    // the long runs of bits first
+    // the long runs of bits first, since a `match` with ranges tests its single numbers first: 54 instructions more for each symbol
     if copy == 1 {
         if b <= 7 {
             place(s, 8, s - 1 - b)
@@ -168,6 +168,7 @@ fn timing(out: &mut [u8], s: usize)
         out,
         2 * (s - 16),
         |t| timing_place(s, t),
+        // a bit of 1, since `u8::from(t / 2 % 2 == 0)` takes 650 instructions more for each symbol
         |t| bit_of(1, t / 2 % 2),
     );
 }
@@ -315,6 +316,7 @@ pub fn finish(base: &[u8], v: usize, level: usize, mask: usize, out: &mut [u8])
     let s = tables::side(v);
     let word = u64::from(words::format_word(words::format_bits(level, mask))) * 16;
     for i in 0..s {
+        // by ranges: of rows lent by `chunks_exact_mut` a proof knows only the length
         let a = i * s;
         let e = a + s;
         tint_row(

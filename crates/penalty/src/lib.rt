@@ -85,7 +85,7 @@ fn columns_score(m: &[u8], s: usize) -> u32
     3 * fives - 2 * sixes + 40 * windows
 }
 
-// Copies a line.
+// Copies a line into a lent part; `window` answers an array of a length that is known beforehand.
 fn copy_line(m: &[u8], start: usize, stride: usize, out: &mut [u8])
     requires { (stride ≤ 64) × ((length out.old ≤ 64) × (start + length out.old * stride < length m.now + stride)) }
     ensures { out.new ≡ line m.now start stride (length out.old) }
@@ -101,6 +101,7 @@ fn turn(m: &[u8], s: usize, out: &mut [u8])
     ensures { out.new ≡ turned s m.now ++ drop (s * s) out.old }
 {
     for i in 0..s {
+        // by ranges: of rows lent by `chunks_exact_mut` a proof knows only the length
         let a = i * s;
         let e = a + s;
         copy_line(m, i, s, &mut out[a..e]);

@@ -3,7 +3,8 @@
 
 ghost use Rattle.std.specs.Prelude.{◌≡◌, ◌*◌, ◌≤◌, ◌<◌, length};
 ghost use Rattle.basics.specs.Lists.{AtMost};
-ghost use Rattle.tables.specs.Tables.{Lawful, side, total, data_count, last_version, most_payload, most_list};
+ghost use Rattle.tables.specs.Tables.{Lawful, side, total, data_count, most_payload, most_list};
+ghost use Rattle.tables.specs.Version.{Square};
 ghost use Rattle.modules.specs.Modules.{format_places, version_places};
 ghost use Rattle.words.specs.Words.{level_of, mask_of};
 ghost use Rattle.words.specs.Found.{FormatFound, VersionFound};
@@ -115,52 +116,11 @@ fn mend_blocks(words: &mut [u8], flags: &[u8], v: usize, level: usize) -> Result
     })
 }
 
-// What a copy of the version word stands for.
-fn version_found(m: &[u8], v: usize, copy: usize) -> Option<u32>
-    requires { (7 ≤ v) × ((v ≤ last_version) × ((copy < 2) × (length m.now ≡ side v * side v))) }
-    ensures { VersionFound (copied m.now (version_places v copy)) (readable m.now (version_places v copy)) result }
-{
-    let c = scan::version_copy(m, v, copy);
-    words::find_version(c.bits, c.readable)
-}
-
-// Refuses a copy of the version word that stands for another version than the side fixes.
-fn check_copy(m: &[u8], v: usize, copy: usize) -> Result<(), Refusal>
-    requires { (7 ≤ v) × ((v ≤ last_version) × ((copy < 2) × (length m.now ≡ side v * side v))) }
-    ensures { VersionCopy v m.now copy result }
-{
-    match version_found(m, v, copy) {
-        Some(x) if x as usize != v => Err(Refusal::OtherVersion),
-        _ => Ok(()),
-    }
-}
-
-// The same of both copies of the version word, drawn from version 7 on.
-fn check_versions(m: &[u8], v: usize) -> Result<(), Refusal>
-    requires { (1 ≤ v) × ((v ≤ last_version) × (length m.now ≡ side v * side v)) }
-    ensures { VersionsRead v m.now result }
-{
-    if v < 7 {
-        return Ok(());
-    }
-    check_copy(m, v, 0)?;
-    check_copy(m, v, 1)
-}
-
 // A level and a mask.
 #[derive(Clone, Copy)]
 pub struct Meta {
     pub level: usize,
     pub mask: usize,
-}
-
-// What a copy of the format word stands for.
-fn format_found(m: &[u8], v: usize, copy: usize) -> Option<u32>
-    requires { (1 ≤ v) × ((v ≤ last_version) × ((copy < 2) × (length m.now ≡ side v * side v))) }
-    ensures { FormatFound (copied m.now (format_places v copy)) (readable m.now (format_places v copy)) result }
-{
-    let c = scan::format_copy(m, v, copy);
-    words::find_format(c.bits, c.readable)
 }
 
 // The level and the mask of five bits.
@@ -174,74 +134,72 @@ fn meta_of(bits: u32) -> Meta
     }
 }
 
-// The level and the mask that the format copies stand for; or neither stands for anything, or they stand for different words.
-fn find_format(m: &[u8], v: usize) -> Result<Meta, Refusal>
-    requires { (1 ≤ v) × ((v ≤ last_version) × (length m.now ≡ side v * side v)) }
-    ensures { FormatsRead v m.now result }
-{
-    let first = format_found(m, v, 0);
-    let second = format_found(m, v, 1);
-    match (first, second) {
-        (None, None) => Err(Refusal::NoFormat),
-        (Some(x), None) => Ok(meta_of(x)),
-        (None, Some(y)) => Ok(meta_of(y)),
-        (Some(x), Some(y)) => if x == y {
-            Ok(meta_of(x))
-        } else {
-            Err(Refusal::TwoFormats)
-        },
-    }
-}
-
-// The codewords of a matrix and their flags, block after block.
-#[tactic(auto, using(crate::proofs::Data::rooms))]
-fn collect(m: &[u8], v: usize, level: usize, mask: usize, blocks: &mut [u8], lost: &mut [u8])
-    requires lawful { Lawful v level × (mask < 8) }
-    requires m_len { (length m.now ≡ side v * side v) × AtMost 2 m.now }
-    requires blocks_len { (length blocks.old ≡ total v) × (length lost.old ≡ total v) }
-    ensures { Collected v level (received v mask m.now) blocks.new lost.new }
-{
-    let n = tables::total(v);
-    let mut words = [0u8; MOST_CODEWORDS];
-    let mut flags = [0u8; MOST_CODEWORDS];
-    scan::codewords(m, v, mask, &mut words[..n], &mut flags[..n]);
-    blocks::gather(&words[..n], v, level, blocks);
-    blocks::gather(&flags[..n], v, level, lost);
-}
-
-// The data codewords of a matrix, each block corrected, in block order; or a block has no codeword within its bound. `blocks` and `lost` are room
-// for the codewords and their flags.
-fn mend_in(
-    m: &[u8],
+// A matrix and the version that its length fixes.
+#[derive(Clone, Copy)]
+struct Matrix<'a> {
+    m: &'a [u8],
     v: usize,
-    level: usize,
-    mask: usize,
-    blocks: &mut [u8],
-    lost: &mut [u8],
-    data: &mut [u8],
-) -> Result<Counts, Refusal>
-    requires lawful { Lawful v level × (mask < 8) }
-    requires m_len { (length m.now ≡ side v * side v) × (AtMost 2 m.now × (length «data».old ≡ data_count v level)) }
-    requires blocks_len { (length blocks.old ≡ total v) × (length lost.old ≡ total v) }
-    ensures { DataMended v level (received v mask m.now) «data».new result }
-{
-    collect(m, v, level, mask, blocks, lost);
-    let sums = mend_blocks(blocks, lost, v, level)?;
-    blocks::take_data(blocks, v, level, data);
-    Ok(sums)
+    ghost square: { Square (length m.now) v },
 }
 
-// The same, with room of its own.
-#[tactic(auto, using(crate::proofs::Data::rooms))]
-fn mend(m: &[u8], v: usize, level: usize, mask: usize, data: &mut [u8]) -> Result<Counts, Refusal>
-    requires lawful { Lawful v level × (mask < 8) }
-    requires m_len { (length m.now ≡ side v * side v) × (AtMost 2 m.now × (length «data».old ≡ data_count v level)) }
-    ensures { DataMended v level (received v mask m.now) «data».new result }
-{
-    let n = tables::total(v);
-    let mut blocks = [0u8; MOST_CODEWORDS];
-    let mut lost = [0u8; MOST_CODEWORDS];
-    mend_in(m, v, level, mask, &mut blocks[..n], &mut lost[..n], data)
+impl Matrix<'_> {
+    // What a copy of the version word stands for.
+    fn version_found(self, copy: usize) -> Option<u32>
+        requires { (7 ≤ self.v) × (copy < 2) }
+        ensures { let x = self.entry in VersionFound (copied x.m.now (version_places x.v copy)) (readable x.m.now (version_places x.v copy)) result }
+    {
+        let c = scan::version_copy(self.m, self.v, copy);
+        words::find_version(c.bits, c.readable)
+    }
+
+    // Refuses a copy of the version word that stands for another version than the side fixes.
+    fn check_copy(self, copy: usize) -> Result<(), Refusal>
+        requires { (7 ≤ self.v) × (copy < 2) }
+        ensures { let x = self.entry in VersionCopy x.v x.m.now copy result }
+    {
+        match self.version_found(copy) {
+            Some(x) if x as usize != self.v => Err(Refusal::OtherVersion),
+            _ => Ok(()),
+        }
+    }
+
+    // The same of both copies of the version word, drawn from version 7 on.
+    fn check_versions(self) -> Result<(), Refusal>
+        ensures { let x = self.entry in VersionsRead x.v x.m.now result }
+    {
+        if self.v < 7 {
+            return Ok(());
+        }
+        self.check_copy(0)?;
+        self.check_copy(1)
+    }
+
+    // What a copy of the format word stands for.
+    fn format_found(self, copy: usize) -> Option<u32>
+        requires { copy < 2 }
+        ensures { let x = self.entry in FormatFound (copied x.m.now (format_places x.v copy)) (readable x.m.now (format_places x.v copy)) result }
+    {
+        let c = scan::format_copy(self.m, self.v, copy);
+        words::find_format(c.bits, c.readable)
+    }
+
+    // The level and the mask that the format copies stand for; or neither stands for anything, or they stand for different words.
+    fn find_format(self) -> Result<Meta, Refusal>
+        ensures { let x = self.entry in FormatsRead x.v x.m.now result }
+    {
+        let first = self.format_found(0);
+        let second = self.format_found(1);
+        match (first, second) {
+            (None, None) => Err(Refusal::NoFormat),
+            (Some(x), None) => Ok(meta_of(x)),
+            (None, Some(y)) => Ok(meta_of(y)),
+            (Some(x), Some(y)) => if x == y {
+                Ok(meta_of(x))
+            } else {
+                Err(Refusal::TwoFormats)
+            },
+        }
+    }
 }
 
 // Version, level and mask; the lengths of what was read; the sums over all blocks.
@@ -256,32 +214,82 @@ pub struct Reading {
     pub unreadable: usize,
 }
 
-// The last two steps, once the level and the mask are known: the blocks, and the stream of their data codewords, which are put into `held`.
-fn finish(
-    m: &[u8],
+// A matrix with no module above 2, the version that its length fixes, and the level and the mask that a format copy names.
+#[derive(Clone, Copy)]
+struct Symbol<'a> {
+    m: &'a [u8],
     v: usize,
     level: usize,
     mask: usize,
-    held: &mut [u8],
-    payload: &mut [u8],
-    list: &mut [u16],
-) -> Result<Reading, Refusal>
-    requires lawful { Lawful v level × (mask < 8) }
-    requires m_len { (length m.now ≡ side v * side v) × (AtMost 2 m.now × (length held.old ≡ data_count v level)) }
-    requires most_payload_in_bounds { (most_payload ≤ length payload.old) × (most_list ≤ length list.old) }
-    ensures { Finished v level mask m.now payload.old list.old result payload.new list.new }
-{
-    let sums = mend(m, v, level, mask, held)?;
-    let sizes = parse::parse(held, v, payload, list)?;
-    Ok(Reading {
-        version: v,
-        level,
-        mask,
-        payload: sizes.payload,
-        segments: sizes.segments,
-        differing: sums.differing,
-        unreadable: sums.unreadable,
-    })
+    ghost lawful: { Lawful v level },
+    ghost masked: { mask < 8 },
+    ghost long: { length m.now ≡ side v * side v },
+    ghost plain: { AtMost 2 m.now },
+}
+
+impl Symbol<'_> {
+    // The codewords of the matrix and their flags, block after block.
+    #[tactic(auto, using(crate::proofs::Data::rooms))]
+    fn collect(self, blocks: &mut [u8], lost: &mut [u8])
+        requires { (length blocks.old ≡ total self.v) × (length lost.old ≡ total self.v) }
+        ensures { let x = self.entry in Collected x.v x.level (received x.v x.mask x.m.now) blocks.new lost.new }
+    {
+        let n = tables::total(self.v);
+        let mut words = [0u8; MOST_CODEWORDS];
+        let mut flags = [0u8; MOST_CODEWORDS];
+        scan::codewords(self.m, self.v, self.mask, &mut words[..n], &mut flags[..n]);
+        blocks::gather(&words[..n], self.v, self.level, blocks);
+        blocks::gather(&flags[..n], self.v, self.level, lost);
+    }
+
+    // The data codewords of the matrix, each block corrected, in block order; or a block has no codeword within its bound. `blocks` and `lost` are
+    // room for the codewords and their flags: `mend_blocks` writes the one and reads the other, so they are lent one by one.
+    fn mend_in(self, blocks: &mut [u8], lost: &mut [u8], data: &mut [u8]) -> Result<Counts, Refusal>
+        requires blocks_len { (length blocks.old ≡ total self.v) × (length lost.old ≡ total self.v) }
+        requires data_len { length «data».old ≡ data_count self.v self.level }
+        ensures { let x = self.entry in DataMended x.v x.level (received x.v x.mask x.m.now) «data».new result }
+    {
+        self.collect(blocks, lost);
+        let sums = mend_blocks(blocks, lost, self.v, self.level)?;
+        blocks::take_data(blocks, self.v, self.level, data);
+        Ok(sums)
+    }
+
+    // The same, with room of its own.
+    #[tactic(auto, using(crate::proofs::Data::rooms))]
+    fn mend(self, data: &mut [u8]) -> Result<Counts, Refusal>
+        requires { length «data».old ≡ data_count self.v self.level }
+        ensures { let x = self.entry in DataMended x.v x.level (received x.v x.mask x.m.now) «data».new result }
+    {
+        let n = tables::total(self.v);
+        let mut blocks = [0u8; MOST_CODEWORDS];
+        let mut lost = [0u8; MOST_CODEWORDS];
+        self.mend_in(&mut blocks[..n], &mut lost[..n], data)
+    }
+
+    // The last two steps: the blocks, and the stream of their data codewords, which are put into `held`.
+    fn finish(
+        self,
+        held: &mut [u8],
+        payload: &mut [u8],
+        list: &mut [u16],
+    ) -> Result<Reading, Refusal>
+        requires held_len { length held.old ≡ data_count self.v self.level }
+        requires most_payload_in_bounds { (most_payload ≤ length payload.old) × (most_list ≤ length list.old) }
+        ensures { let x = self.entry in Finished x.v x.level x.mask x.m.now payload.old list.old result payload.new list.new }
+    {
+        let sums = self.mend(held)?;
+        let sizes = parse::parse(held, self.v, payload, list)?;
+        Ok(Reading {
+            version: self.v,
+            level: self.level,
+            mask: self.mask,
+            payload: sizes.payload,
+            segments: sizes.segments,
+            differing: sums.differing,
+            unreadable: sums.unreadable,
+        })
+    }
 }
 
 // The answer that a matrix gets; its payload and its segments at the fronts of the buffers. A refusal leaves both as they were.
@@ -294,9 +302,11 @@ pub fn read(m: &[u8], payload: &mut [u8], list: &mut [u16]) -> Result<Reading, R
     }
     let v = check_side(m)?;
     check_modules(m)?;
-    check_versions(m, v)?;
-    let Meta { level, mask } = find_format(m, v)?;
+    let matrix = Matrix { m, v };
+    matrix.check_versions()?;
+    let Meta { level, mask } = matrix.find_format()?;
     let d = tables::data(v, level);
     let mut held = [0u8; MOST_DATA];
-    finish(m, v, level, mask, &mut held[..d], payload, list)
+    let symbol = Symbol { m, v, level, mask };
+    symbol.finish(&mut held[..d], payload, list)
 }

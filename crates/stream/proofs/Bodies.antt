@@ -11,7 +11,9 @@ use lib.Seq.{drop-cons}
 use borrow.Author.Tests.{ne_eqb, eqb-false}
 use Rattle.std.specs.List.{fold}
 use Rattle.basics.specs.Bits.{bits, byte_bits}
-use Rattle.stream.specs.Put.{RoomForBits, value, bits_behind, group_bits}
+use Rattle.stream.specs.BitWriter.{HasRoom}
+use Rattle.stream.specs.declared.BitWriter.{BitWriter}
+use Rattle.stream.specs.Put.{value, bits_behind, group_bits}
 use Rattle.stream.specs.Stream.{code_of, numeric_bits, alphanumeric_bits, body}
 
 module _ (base : ℕ) (widths : List ℕ) where
@@ -72,12 +74,12 @@ alphanumeric_groups (a ∷ b ∷ chars) =
     rw (e, alphanumeric_groups chars)
 
 -- a body has room as the groups that it is
-module _ {out : List ℕ} {at mode : ℕ} (chars : List ℕ) (room : RoomForBits out at (body mode chars)) where
-  pub digits_room : mode ≡ 1 → RoomForBits out at (group_bits 10 (4 ∷ 7 ∷ 10 ∷ []) chars)
+module _ {writer : BitWriter} {mode : ℕ} (chars : List ℕ) (room : HasRoom writer (body mode chars)) where
+  pub digits_room : mode ≡ 1 → HasRoom writer (group_bits 10 (4 ∷ 7 ∷ 10 ∷ []) chars)
   unfolding body
   digits_room e = rw (numeric_groups chars) (rw e at room)
 
-  pub pairs_room : mode ≡ 2 → RoomForBits out at (group_bits 45 (6 ∷ 11 ∷ []) chars)
+  pub pairs_room : mode ≡ 2 → HasRoom writer (group_bits 45 (6 ∷ 11 ∷ []) chars)
   unfolding body
   pairs_room e = rw (alphanumeric_groups chars) (rw e at room)
 

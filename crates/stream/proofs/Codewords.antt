@@ -9,10 +9,11 @@ use Rattle.basics.specs.Lists.{AtMost}
 use Rattle.tables.specs.Tables.{Lawful, data_count}
 use Rattle.tables.proofs.Rules.{data_most}
 use Rattle.cursor.proofs.Fields.{with_bits_length}
-use Rattle.stream.specs.Put.{RoomForBits, Put}
+use Rattle.stream.specs.BitWriter.{HasRoom, Puts}
+use Rattle.stream.specs.declared.BitWriter.{BitWriter}
 use Rattle.stream.specs.Stream.{segments, pads, data_codewords, LawfulMessage}
 use Rattle.stream.proofs.Fitting.{fit_width}
-use Rattle.stream.proofs.Padding.{front_count, padded_is, padded_length, padded_bytes}
+use Rattle.stream.proofs.Padding.{zeros_le, front_count, padded_is, padded_length, padded_bytes}
 use Rattle.stream.proofs.Widths.{segments_length, segments_le}
 
 module _ (v level : ℕ) (payload list : List ℕ) (m : LawfulMessage v level payload list) where
@@ -28,36 +29,36 @@ module _ (v level : ℕ) (payload list : List ℕ) (m : LawfulMessage v level pa
   unfolding data_codewords
   codewords_bytes = padded_bytes (data_count v level) (segments v list payload) (segments_le v list payload)
 
-  -- a cleared buffer, and what it is with the segments put at its front
-  module _ (cleared : List ℕ) (n : ℕ) (h : n ≡ data_count v level) (lawful : Lawful v level) (e : cleared ≡ replicate n 0) where
-    cleared_length : length cleared ≡ data_count v level
+  -- a writer at the front of a cleared buffer, and what the buffer is with the segments put there
+  module _ (start : BitWriter) (n : ℕ) (h : n ≡ data_count v level) (lawful : Lawful v level) (e : start.out.now ≡ replicate n 0) (first : start.cursor.at ≡ 0) where
+    cleared_length : length start.out.now ≡ data_count v level
     cleared_length = ap length e ∙ length-replicate n 0 ∙ h
 
-    pub cleared_room : RoomForBits cleared 0 (segments v list payload)
-    cleared_room = record { few = omega (arith, cleared_length, data_most v level lawful); fit = omega (arith, cleared_length, segments_fit) }
+    pub cleared_room : HasRoom start (segments v list payload)
+    cleared_room = record { bytes = rw e (zeros_le 255 n); few = omega (arith, cleared_length, data_most v level lawful); fit = omega (arith, first, cleared_length, segments_fit) }
 
-    module _ (put : List ℕ) (at : ℕ) (p : Put cleared 0 (segments v list payload) put at) where
-      pub put_length : length put ≡ data_count v level
-      put_length = ap length p.put ∙ with_bits_length cleared 0 (segments v list payload) ∙ cleared_length
+    module _ (put : BitWriter) (p : Puts start (segments v list payload) put) where
+      pub put_length : length put.out.now ≡ data_count v level
+      put_length = ap length p.put ∙ with_bits_length start.out.now start.cursor.at (segments v list payload) ∙ cleared_length
 
-      used : at ≡ length (segments v list payload)
-      used = p.moved ∙ zero-add _
+      used : put.cursor.at ≡ length (segments v list payload)
+      used = p.moved ∙ rw first (zero-add _)
 
-      pub put_fits : at ≤ 8 * length put
+      pub put_fits : put.cursor.at ≤ 8 * length put.out.now
       put_fits = rw (used, put_length) segments_fit
 
-      module _ (front : ℕ) (f : front ≡ (at + min 4 (8 * length put - at) + 7) / 8) where
-        pub front_within : front ≤ length put
+      module _ (front : ℕ) (f : front ≡ (put.cursor.at + min 4 (8 * length put.out.now - put.cursor.at) + 7) / 8) where
+        pub front_within : front ≤ length put.out.now
         front_within = omega (arith, put_fits)
 
         is_front : front ≡ front_count (data_count v level) (segments v list payload) segments_fit
         is_front = f ∙ rw (used, put_length)
 
         -- with the pads behind the front it is the data codewords
-        pub written : take front put ++ pads (length put - front) ≡ data_codewords v level list payload
+        pub written : take front put.out.now ++ pads (length put.out.now - front) ≡ data_codewords v level list payload
         unfolding data_codewords
         written =
-            rw (put_length, is_front, p.put, e, h) (padded_is (data_count v level) (segments v list payload) segments_fit)
+            rw (put_length, is_front, p.put, first, e, h) (padded_is (data_count v level) (segments v list payload) segments_fit)
 
 -- the data codewords fill the version
 pub stream_length : (v level : ℕ) (payload list : List ℕ) → Lawful v level → LawfulMessage v level payload list

@@ -52,6 +52,10 @@ zero_bits (suc n) = ap (λ (l : List ℕ). replicate 8 0 ++ l) (zero_bits n) ∙
     eight : (n : ℕ) → 8 + 8 * n ≡ 8 * suc n
     eight n = omega arith
 
+pub zeros_le : (m n : ℕ) → AtMost m (replicate n 0)
+zeros_le m zero = λ i h. absurd (not-suc-le-zero h)
+zeros_le m (suc n) = at_most_cons m 0 (replicate n 0) (omega arith) (zeros_le m n)
+
 pub drop_replicate : (k n a : ℕ) → drop k (replicate n a) ≡ replicate (n - k) a
 drop_replicate zero n a = rw sub-zero
 drop_replicate (suc k) zero a = rw zero-sub
@@ -128,9 +132,5 @@ unfolding padded whole_bytes
 padded_bytes most bs h =
     let n = min 4 (8 * most - length bs) in
     at_most_append 255 (whole_bytes most bs) (pads (most - length (whole_bytes most bs)))
-    (bytes_small _ _ (at_most_append 1 (bs ++ replicate n 0) (replicate 7 0) (at_most_append 1 bs (replicate n 0) h (zeros_le n)) (zeros_le 7)))
+    (bytes_small _ _ (at_most_append 1 (bs ++ replicate n 0) (replicate 7 0) (at_most_append 1 bs (replicate n 0) h (zeros_le 1 n)) (zeros_le 1 7)))
     (pads_le (most - length (whole_bytes most bs)))
-  where
-    zeros_le : (n : ℕ) → AtMost 1 (replicate n 0)
-    zeros_le zero = λ i h. absurd (not-suc-le-zero h)
-    zeros_le (suc n) = at_most_cons 1 0 (replicate n 0) (omega arith) (zeros_le n)

@@ -2,74 +2,55 @@
 -- Each turn of a loop takes one piece off the front of the rest; at the end no rest is left.
 use mathlib.Core.Path.{◌≡◌, refl, sym, ap, ◌∙◌}
 use mathlib.Core.List.{List, [], ◌++◌}
-use Prim.Native.Nat.{ℕ, ◌+◌, ◌*◌, ◌≤◌}
+use Prim.Native.Nat.{ℕ, ◌+◌}
 use native.Mathlib.Omega.{arith}
 use lib.ListN.{length, length-append}
-use Rattle.basics.specs.Bits.{bits}
 use Rattle.basics.specs.Lists.{AtMost}
-use Rattle.basics.proofs.Bits.{length_bits, bits_le}
 use Rattle.cursor.specs.Cursor.{with_bits}
-use Rattle.stream.specs.Put.{RoomForBits, Put}
 use Rattle.cursor.proofs.Fields.{with_bits_length, with_bits_bytes, with_bits_none, with_bits_more}
+use Rattle.stream.specs.BitWriter.{HasRoom, Puts}
+use Rattle.stream.specs.declared.BitWriter.{BitWriter}
 
-module _ (out₀ : List ℕ) (at₀ : ℕ) (all : List ℕ) where
-  -- in `out`, with the cursor at `at`, all is put but the rest
-  pub record Going (out : List ℕ) (at : ℕ) (rest : List ℕ) : Type 0 where
-    pub same : length out ≡ length out₀
-    pub small : AtMost 255 out
-    pub place : at + length rest ≡ at₀ + length all
-    pub held : with_bits out at rest ≡ with_bits out₀ at₀ all
+-- from the start on all is put but the rest
+pub record Going (start : BitWriter) (all : List ℕ) (now : BitWriter) (rest : List ℕ) : Type 0 where
+  pub same : length now.out.now ≡ length start.out.now
+  pub small : AtMost 255 now.out.now
+  pub place : now.cursor.at + length rest ≡ start.cursor.at + length all
+  pub held : with_bits now.out.now now.cursor.at rest ≡ with_bits start.out.now start.cursor.at all
+  pub same_buffer : now.out.ghost_name ≡ start.out.ghost_name
 
-  pub going_start : AtMost 255 out₀ → Going out₀ at₀ all
-  going_start h = record { same = refl; small = h; place = refl; held = refl }
+pub going_start : {start : BitWriter} {all : List ℕ} → HasRoom start all → Going start all start all
+going_start room = record { same = refl; small = room.bytes; place = refl; held = refl; same_buffer = refl }
 
-  -- a piece put
-  pub going_more : {out : List ℕ} {at : ℕ} {rest : List ℕ} (xs more : List ℕ) {out' : List ℕ} {at' : ℕ} → Going out at rest → rest ≡ xs ++ more → AtMost 1 xs
-      → at₀ + length all ≤ 8 * length out₀ → out' ≡ with_bits out at xs → at' ≡ at + length xs → Going out' at' more
-  going_more {out} {at} xs more g e h l o a =
-      let long : at + (length xs + length more) ≡ at₀ + length all = rw (← length-append xs more, ← e) g.place in
-      record {
-        same = ap length o ∙ with_bits_length out at xs ∙ g.same;
-        small = rw o (with_bits_bytes out at xs h);
-        place = rw a (omega arith);
-        held = rw (o, a) (with_bits_more out at (at + length xs) xs more h refl (rw g.same (omega arith))) ∙ ap (with_bits out at) (sym e) ∙ g.held;
-      }
+module _ {start : BitWriter} {all : List ℕ} {now : BitWriter} {rest : List ℕ} (g : Going start all now rest) where
+  -- a piece at the front of the rest has room, and once it is put the pieces behind it are left
+  module _ (room : HasRoom start all) (xs more : List ℕ) (e : rest ≡ xs ++ more) where
+    long : now.cursor.at + (length xs + length more) ≡ start.cursor.at + length all
+    long = rw (← length-append xs more, ← e) g.place
 
-  -- no rest left
-  pub going_end : {out : List ℕ} {at : ℕ} {rest : List ℕ} → Going out at rest → rest ≡ [] → (at ≡ at₀ + length all) × (out ≡ with_bits out₀ at₀ all)
-  going_end {out} {at} {rest} g e =
-      let put : with_bits out at rest ≡ out = rw e (with_bits_none out at g.small) in
-      let none : length rest ≡ 0 = ap length e in
-      (omega (arith, g.place), sym put ∙ g.held)
+    pub piece_room : HasRoom now xs
+    piece_room = record { bytes = g.small; few = rw g.same room.few; fit = rw g.same (omega (arith, room.fit, long)) }
 
-  -- a field put
-  module _ {out : List ℕ} {at : ℕ} {rest : List ℕ} (n x : ℕ) (more : List ℕ) (g : Going out at rest) (e : rest ≡ bits n x ++ more) (l : at₀ + length all ≤ 8 * length out₀) where
-    pub going_room : at + n ≤ 8 * length out
-    going_room =
-        let long : at + (n + length more) ≡ at₀ + length all =
-        rw (ap length e ∙ length-append (bits n x) more ∙ ap (λ (k : ℕ). k + length more) (length_bits n x)) at g.place in
-        rw g.same (omega arith)
-
-    pub going_field : {out' : List ℕ} {at' : ℕ} → out' ≡ with_bits out at (bits n x) → at' ≡ at + n → Going out' at' more
-    going_field o a = going_more (bits n x) more g e (bits_le n x) l o (a ∙ ap (λ (k : ℕ). at + k) (sym (length_bits n x)))
-
-  -- a piece has room
-  pub piece_room : {out : List ℕ} {at : ℕ} {rest : List ℕ} (xs more : List ℕ) → Going out at rest → rest ≡ xs ++ more → RoomForBits out₀ at₀ all → RoomForBits out at xs
-  piece_room {out} {at} xs more g e r =
-      let long : at + (length xs + length more) ≡ at₀ + length all = rw (← length-append xs more, ← e) g.place in
-      record { few = rw g.same r.few; fit = rw g.same (omega (arith, r.fit)) }
-
-  pub piece_put : {out : List ℕ} {at : ℕ} {rest : List ℕ} (xs more : List ℕ) {out' : List ℕ} {at' : ℕ} → Going out at rest → rest ≡ xs ++ more → AtMost 1 xs
-      → RoomForBits out₀ at₀ all → Put out at xs out' at' → Going out' at' more
-  piece_put xs more g e h r p = going_more xs more g e h r.fit p.put p.moved
-
-  -- no rest left: all is put
-  pub going_done : {out : List ℕ} {at : ℕ} {rest : List ℕ} → Going out at rest → rest ≡ [] → Put out₀ at₀ all out at
-  going_done g e = record { moved = (going_end g e).0; put = (going_end g e).1 }
+    pub piece_put : {next : BitWriter} → AtMost 1 xs → Puts now xs next → Going start all next more
+    piece_put {next} h p = record {
+      same = ap length p.put ∙ with_bits_length now.out.now now.cursor.at xs ∙ g.same;
+      small = rw p.put (with_bits_bytes now.out.now now.cursor.at xs h);
+      place = rw p.moved (omega (arith, long));
+      held = rw (p.put, p.moved) (with_bits_more now.out.now now.cursor.at (now.cursor.at + length xs) xs more h refl (rw g.same (omega (arith, room.fit, long))))
+          ∙ ap (with_bits now.out.now now.cursor.at) (sym e) ∙ g.held;
+      same_buffer = p.same_buffer ∙ g.same_buffer;
+    }
 
   -- the rest has room, and once it is put all is
-  pub going_rest : {out : List ℕ} {at : ℕ} {rest : List ℕ} → Going out at rest → RoomForBits out₀ at₀ all → RoomForBits out at rest
-  going_rest g r = record { few = rw g.same r.few; fit = rw (g.place, g.same) r.fit }
+  pub rest_room : HasRoom start all → HasRoom now rest
+  rest_room room = record { bytes = g.small; few = rw g.same room.few; fit = rw (g.place, g.same) room.fit }
 
-  pub going_put : {out : List ℕ} {at : ℕ} {rest out' : List ℕ} {at' : ℕ} → Going out at rest → Put out at rest out' at' → Put out₀ at₀ all out' at'
-  going_put g p = record { moved = p.moved ∙ g.place; put = p.put ∙ g.held }
+  pub rest_put : {next : BitWriter} → Puts now rest next → Puts start all next
+  rest_put p = record { moved = p.moved ∙ g.place; put = p.put ∙ g.held; same_buffer = p.same_buffer ∙ g.same_buffer }
+
+  -- no rest left: all is put
+  pub going_done : rest ≡ [] → Puts start all now
+  going_done e =
+      let none : length rest ≡ 0 = ap length e in
+      let put : with_bits now.out.now now.cursor.at rest ≡ now.out.now = rw e (with_bits_none now.out.now now.cursor.at g.small) in
+      record { moved = omega (arith, g.place); put = sym put ∙ g.held; same_buffer = g.same_buffer }

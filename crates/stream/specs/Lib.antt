@@ -1,2 +1,3 @@
+pub mod BitWriter
 pub mod Put
 pub mod Stream

@@ -2,10 +2,11 @@
 #![tactic(auto)]
 
 ghost use Rattle.std.specs.Prelude.{◌≡◌, true, [], ◌∷◌, ◌++◌, ◌+◌, ◌-◌, ◌*◌, ◌/◌, ◌%◌, ◌≤◌, ◌<◌, min, eqb, length, get_or, take, replicate};
-ghost use Rattle.basics.specs.Bits.{byte_bits};
+ghost use Rattle.basics.specs.Bits.{bits, byte_bits};
 ghost use Rattle.std.specs.List.{list_all};
 ghost use Rattle.tables.specs.Tables.{Lawful, data_count, count_width};
-ghost use Rattle.stream.specs.Put.{RoomForBits, Put, segment_bits, value, Grouping, group_bits};
+ghost use Rattle.stream.specs.BitWriter.{HasRoom, Puts};
+ghost use Rattle.stream.specs.Put.{segment_bits, value, Grouping, group_bits};
 ghost use Rattle.stream.specs.Stream.{code_of, known as is_known, in_mode, lawful_list, counts, lawful_characters, body_width, fits as does_fit, numeric_bits, alphanumeric_bits, body, segments, pads, data_codewords, LawfulMessage};
 
 use cursor::Cursor;
@@ -153,72 +154,80 @@ fn value_of(base: u32, group: &[u8]) -> u32
     }
 }
 
-// A body of groups: each has as many characters as there are widths, only the last may have fewer. A group of n characters takes the n-th width.
-fn put_groups(
-    mut cursor: Cursor,
-    base: u32,
-    widths: &[usize],
-    chars: &[u8],
-    out: &mut [u8],
-) -> Cursor
-    requires { Grouping base widths.now × RoomForBits out.old cursor.at (group_bits base widths.now chars.now) }
-    ensures { Put out.old cursor.at (group_bits base widths.now chars.now) out.new result.at }
-{
-    for group in chars.chunks(widths.len()) {
-        cursor = cursor.put(out, value_of(base, group), widths[group.len() - 1]);
-    }
-    cursor
+// A lent buffer and the cursor of its next free bit. Each method puts its bits from there on.
+#[derive(Drop)]
+struct BitWriter<'a> {
+    out: &'a mut [u8],
+    cursor: Cursor,
 }
 
-// A byte body.
-fn put_bytes(mut cursor: Cursor, chars: &[u8], out: &mut [u8]) -> Cursor
-    requires { RoomForBits out.old cursor.at (byte_bits chars.now) }
-    ensures { Put out.old cursor.at (byte_bits chars.now) out.new result.at }
-{
-    for c in chars {
-        cursor = cursor.put(out, u32::from(*c), 8);
+impl BitWriter<'_> {
+    // The n lowest bits of a value.
+    #[tactic(auto, using(basics::proofs::Bits::length_bits))]
+    fn put_bits(&mut self, value: u32, n: usize)
+        requires { (n ≤ 16) × HasRoom self.old (bits n value) }
+        ensures { Puts self.old (bits n value) self.new }
+    {
+        self.cursor = self.cursor.put(self.out, value, n);
     }
-    cursor
-}
 
-// A body in its mode: three digits in 10 bits, two left in 7, one left in 4; a pair in 11 bits, one left in 6; or bytes.
-#[tactic(auto, using(crate::proofs::Bodies::numeric_groups, crate::proofs::Bodies::alphanumeric_groups), unfolding(crate::specs::Stream::body))]
-fn put_body(cursor: Cursor, mode: usize, chars: &[u8], out: &mut [u8]) -> Cursor
-    requires { RoomForBits out.old cursor.at (body mode chars.now) }
-    ensures { Put out.old cursor.at (body mode chars.now) out.new result.at }
-{
-    match mode {
-        1 => put_groups(cursor, 10, &[4, 7, 10], chars, out),
-        2 => put_groups(cursor, 45, &[6, 11], chars, out),
-        _ => put_bytes(cursor, chars, out),
+    // A body of groups: each has as many characters as there are widths, only the last may have fewer. A group of n characters takes the n-th width.
+    fn put_groups(&mut self, base: u32, widths: &[usize], chars: &[u8])
+        requires { Grouping base widths.now × HasRoom self.old (group_bits base widths.now chars.now) }
+        ensures { Puts self.old (group_bits base widths.now chars.now) self.new }
+    {
+        for group in chars.chunks(widths.len()) {
+            self.put_bits(value_of(base, group), widths[group.len() - 1]);
+        }
     }
-}
 
-// A segment: 4-bit mode, count, body.
-fn put_segment(cursor: Cursor, v: usize, mode: u16, chars: &[u8], out: &mut [u8]) -> Cursor
-    requires { (length chars.now < 65536) × RoomForBits out.old cursor.at (segment_bits v mode chars.now) }
-    ensures { Put out.old cursor.at (segment_bits v mode chars.now) out.new result.at }
-{
-    let start = cursor.put(out, u32::from(mode), 4);
-    let mode = usize::from(mode);
-    let counted = start.put(out, chars.len() as u32, tables::count_width(v, mode));
-    put_body(counted, mode, chars, out)
-}
-
-// All segments, from the first bit on.
-#[tactic(auto, using(crate::proofs::Pairs::counting))]
-fn put_segments(payload: &[u8], list: &[u16], v: usize, out: &mut [u8]) -> Cursor
-    requires { (counts list.now ≡ length payload.now) × RoomForBits out.old 0 (segments v list.now payload.now) }
-    ensures { Put out.old 0 (segments v list.now payload.now) out.new result.at }
-{
-    let mut cursor = Cursor { at: 0 };
-    let mut left = payload;
-    for pair in list.chunks_exact(2) {
-        let (chars, rest) = left.split_at(usize::from(pair[1]));
-        cursor = put_segment(cursor, v, pair[0], chars, out);
-        left = rest;
+    // A byte body.
+    fn put_bytes(&mut self, chars: &[u8])
+        requires { HasRoom self.old (byte_bits chars.now) }
+        ensures { Puts self.old (byte_bits chars.now) self.new }
+    {
+        for c in chars {
+            self.put_bits(u32::from(*c), 8);
+        }
     }
-    cursor
+
+    // A body in its mode: three digits in 10 bits, two left in 7, one left in 4; a pair in 11 bits, one left in 6; or bytes.
+    #[tactic(auto, using(crate::proofs::Bodies::numeric_groups, crate::proofs::Bodies::alphanumeric_groups), unfolding(crate::specs::Stream::body))]
+    fn put_body(&mut self, mode: usize, chars: &[u8])
+        requires { HasRoom self.old (body mode chars.now) }
+        ensures { Puts self.old (body mode chars.now) self.new }
+    {
+        match mode {
+            1 => self.put_groups(10, &[4, 7, 10], chars),
+            2 => self.put_groups(45, &[6, 11], chars),
+            _ => self.put_bytes(chars),
+        }
+    }
+
+    // A segment: 4-bit mode, count, body.
+    fn put_segment(&mut self, v: usize, mode: u16, chars: &[u8])
+        requires { (length chars.now < 65536) × HasRoom self.old (segment_bits v mode chars.now) }
+        ensures { Puts self.old (segment_bits v mode chars.now) self.new }
+    {
+        self.put_bits(u32::from(mode), 4);
+        let mode = usize::from(mode);
+        self.put_bits(chars.len() as u32, tables::count_width(v, mode));
+        self.put_body(mode, chars)
+    }
+
+    // All segments. The payload and the list stay two parameters, as in the public functions: a struct of both would be made for this one call.
+    #[tactic(auto, using(crate::proofs::Pairs::counting))]
+    fn put_segments(&mut self, payload: &[u8], list: &[u16], v: usize)
+        requires { (counts list.now ≡ length payload.now) × HasRoom self.old (segments v list.now payload.now) }
+        ensures { Puts self.old (segments v list.now payload.now) self.new }
+    {
+        let mut left = payload;
+        for pair in list.chunks_exact(2) {
+            let (chars, rest) = left.split_at(usize::from(pair[1]));
+            self.put_segment(v, pair[0], chars);
+            left = rest;
+        }
+    }
 }
 
 // How many bytes the segments take with up to four zero bits as fit and zeros to a whole byte.
@@ -252,7 +261,11 @@ pub fn encode(payload: &[u8], list: &[u16], v: usize, level: usize, out: &mut [u
     ensures { out.new ≡ data_codewords v level list.now payload.now }
 {
     out.fill(0);
-    let used = put_segments(payload, list, v, out).at;
-    let front = front_count(out.len(), used);
-    put_pads(out, front);
+    let mut writer = BitWriter {
+        out,
+        cursor: Cursor { at: 0 },
+    };
+    writer.put_segments(payload, list, v);
+    let front = front_count(writer.out.len(), writer.cursor.at);
+    put_pads(writer.out, front);
 }

@@ -21,7 +21,7 @@ pub const MOST_PAYLOAD: usize = 652;
 
 pub const MOST_LIST: usize = 308;
 
-// What these constants are.
+// What these constants are. A constant has no contract: by a result each is held to the definition.
 #[derive(Clone, Copy)]
 pub struct Largest {
     pub version: usize,
@@ -79,7 +79,8 @@ const BLOCKS: [[u8; 4]; 10] = [
     [4, 5, 8, 8],
 ];
 
-// Alignment centres, 0 where a version has no more.
+// Alignment centres, 0 where a version has no more, and `centre_count` beside them: rows of their own lengths would be slices, and a table of addresses is data
+// that is written as the library is loaded, of which it has none.
 const CENTRES: [[u8; 3]; 10] = [
     [0, 0, 0],
     [6, 18, 0],

@@ -1,23 +1,13 @@
--- `code::reduce` meets its contract: the loop fills the coefficients from the front.
-use mathlib.Core.Path.{◌≡◌}
-use native.Mathlib.Numerals.{add-one}
-use native.Mathlib.Omega.{arith}
-use borrow.Author.Rules.{rules}
+-- `code::reduce` meets its contract: the closure gives each coefficient.
+use Rattle.std.proofs.Common.{ℕ, refl, ◌∙◌, ltb, cond, rules, tests, arith}
+use Rattle.basics.proofs.Made.{made}
 use Rattle.code.specs.Lanes.{reduced}
-use Rattle.code.proofs.Lanes.{fill, fill_none, fill_more}
+use Rattle.code.proofs.Lanes.{build_zero}
 use Rattle.code.proofs.reduce.Goals as goal
 
-pub loop-k-init : goal.loop-k-init
-loop-k-init c = fill_none _ 33
-
-pub loop-k-preserved : goal.loop-k-preserved
-unfolding reduced
-loop-k-preserved c = let l = c.loop-k in
-    let a = c.args in
-    fill_more (reduced a.r a.g a.d) 33 l.k _ l.s l.invariant (search rules) (rw (c.mul.ensures, add-one))
-
 pub returns : goal.returns
-unfolding fill
-returns c = let l = c.loop-k in
-    let e : l.k ≡ 32 = omega arith in
-    rw e at l.invariant
+unfolding reduced
+returns c =
+    let f = λ (k : ℕ). reduced c.args.r c.args.g c.args.d k in
+    made _ _ (λ k. cond (ltb k 32) (f k) 0) (λ k v g call. (grind (arith, tests), search rules)) _ 33 c.from_fn.ensures.items
+    ∙ build_zero (λ k. cond (ltb k 32) (f k) 0) f 32 (λ k l. grind (arith, tests)) refl

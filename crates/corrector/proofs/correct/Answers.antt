@@ -11,6 +11,15 @@ returns-then-eq c = clean c.requires.2 c.syndromes-s.ensures ((bytes_eq-Decides 
     (λ j l. let f : Fits w8 (get_or c.args.word.now j 0) = search rules in omega (arith, f))
     c.missing-e.ensures c.if-e-eq0.true
 
+pub proposed-requires : goal.proposed-requires
+proposed-requires c = record {
+  bytes = λ j l. let f : Fits w8 (get_or c.args.word.now j 0) = search rules in omega (arith, f);
+  checks = c.requires.2;
+  missing = c.missing-e.ensures;
+  few = omega arith;
+  sums = c.syndromes-s.ensures;
+}
+
 pub returns-in_err-fixed : goal.returns-in_err-fixed
 returns-in_err-fixed c =
     rw c.from_residual.ensures (refl, λ c' t e st. c.in_err-fixed.ensures c.args.room c' t e c.requires.3 st)
