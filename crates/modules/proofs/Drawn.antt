@@ -31,10 +31,10 @@ unfoldable pub from7 : (v : ℕ) → List ℕ
 from7 v = walked (version_place v) (version_value (version_word v)) 36 (below7 v)
 
 -- the same from the numbers and the matrices as the code has them
-pub below_made : (v s n : ℕ) (out₁ out₂ out₃ : List ℕ) → n ≡ side v * side v → out₁ ≡ replicate n 2 → s ≡ side v
-    → out₂ ≡ finders_on s out₁ → out₃ ≡ frame_on v out₂ → out₃ ≡ below7 v
+pub below_made : (v n : ℕ) (out₁ out₂ out₃ : List ℕ) → n ≡ side v * side v → out₁ ≡ replicate n 2 → out₂ ≡ finders_on (side v) out₁
+    → out₃ ≡ frame_on v out₂ → out₃ ≡ below7 v
 unfolding below7
-below_made v s n out₁ out₂ out₃ long cleared sized found framed = rw (framed, found, sized, cleared, long)
+below_made v n out₁ out₂ out₃ long cleared found framed = rw (framed, found, cleared, long)
 
 pub from_made : (v word : ℕ) (out out' : List ℕ) → out ≡ below7 v → word ≡ version_word v → out' ≡ walked (version_place v) (version_value word) 36 out → out' ≡ from7 v
 unfolding from7

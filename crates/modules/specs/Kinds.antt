@@ -1,5 +1,5 @@
 -- What is laid once for all masks, and what finishes it for one: a number for each module.
-use Rattle.std.specs.Prelude.{◌≡◌, Bool, true, false, cond, ◌&&◌, ◌||◌, List, map, ℕ, zero, suc, ◌+◌, ◌-◌, ◌*◌, ◌/◌, ◌%◌, ◌<◌, leb, eqb, length, get_or, set}
+use Rattle.std.specs.Prelude.{◌≡◌, Bool, true, false, cond, ◌&&◌, ◌||◌, List, map, ℕ, zero, suc, ◌+◌, ◌-◌, ◌*◌, ◌/◌, ◌%◌, ◌≤◌, ◌<◌, leb, eqb, length, get_or, set}
 use Rattle.std.specs.Int.Bits.{bit_xor}
 use Rattle.basics.specs.Bits.{bit_of, byte_bits, low_first}
 use Rattle.basics.specs.Lists.{up_to}
@@ -51,6 +51,10 @@ tinted plain turned row j x = bit_of (cond (eqb (bit_of row j) 0) plain turned) 
 -- at each of the first n turns the only answer is f's
 abbrev pub Gives : (answer : ℕ → ℕ → Type 0) (n : ℕ) (f : ℕ → ℕ) → Type 0
 Gives answer n f = (t x : ℕ) → t < n → answer t x → x ≡ f t
+
+-- a list has room for the matrix of a version
+abbrev pub HasRoom : (out : List ℕ) (v : ℕ) → Type 0
+HasRoom out v = side v * side v ≤ length out
 
 -- module t of a square of side w, row by row
 unfoldable pub square_place : (s top left w t : ℕ) → ℕ

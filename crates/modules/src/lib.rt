@@ -8,7 +8,7 @@ ghost use Rattle.basics.specs.Lists.{AtMost};
 ghost use Rattle.basics.specs.Walk.{walked};
 ghost use Rattle.tables.specs.Tables.{side as side_of, centres, last_version, Lawful};
 ghost use Rattle.modules.specs.Modules.{format_places, version_places, pair_column};
-ghost use Rattle.modules.specs.Kinds.{Gives, kinds as kinds_of, row_flips, square_place, timing_place, timing_value, format_place, format_value, version_place, version_value, at_finder, aligned_one, aligned, finders_on, frame_on, laid, finished, tinted, filling, put as put_one, put_all, pair_place};
+ghost use Rattle.modules.specs.Kinds.{Gives, HasRoom, kinds as kinds_of, row_flips, square_place, timing_place, timing_value, format_place, format_value, version_place, version_value, at_finder, aligned_one, aligned, finders_on, frame_on, laid, finished, tinted, filling, put as put_one, put_all, pair_place};
 
 // The kind of a data module that is not filled, or filled by 0. A kind is a byte and no enum: callers lend the matrices of kinds, and `tint` takes a kind as the
 // number of its colour's bit.
@@ -130,77 +130,6 @@ fn draw<P: Fn(usize) -> usize, K: Fn(usize) -> u8>(out: &mut [u8], turns: usize,
     }
 }
 
-// A square of side w: dark where a bit is set, row by row.
-#[tactic(auto, unfolding(crate::specs::Kinds::square_place))]
-fn square(out: &mut [u8], s: usize, top: usize, left: usize, w: usize, dark: u64)
-    requires { (1 ≤ w) × ((w ≤ 8) × ((s ≤ 57) × ((top + w ≤ s) × ((left + w ≤ s) × (s * s ≤ length out.old))))) }
-    ensures { out.new ≡ walked (square_place s top left w) (bit_of dark) (w * w) out.old }
-{
-    draw(
-        out,
-        w * w,
-        |t| place(s, top + t / w, left + t % w),
-        |t| bit_of(dark, t),
-    );
-}
-
-// Module t of row 6 and column 6 between the finders, row and column in turn.
-#[tactic(auto, unfolding(crate::specs::Kinds::timing_place))]
-fn timing_place(s: usize, t: usize) -> usize
-    requires { (21 ≤ s) × ((s ≤ 57) × (t < 2 * (s - 16))) }
-    ensures { (result ≡ timing_place s t) × (result < s * s) }
-{
-    let j = 8 + t / 2;
-    if t % 2 == 0 {
-        place(s, 6, j)
-    } else {
-        place(s, j, 6)
-    }
-}
-
-// Row 6 and column 6 between the finders, dark at even index.
-#[tactic(auto, unfolding(crate::specs::Kinds::timing_value))]
-fn timing(out: &mut [u8], s: usize)
-    requires { (21 ≤ s) × ((s ≤ 57) × (s * s ≤ length out.old)) }
-    ensures { out.new ≡ walked (timing_place s) timing_value (2 * (s - 16)) out.old }
-{
-    draw(
-        out,
-        2 * (s - 16),
-        |t| timing_place(s, t),
-        // a bit of 1, since `u8::from(t / 2 % 2 == 0)` takes 650 instructions more for each symbol
-        |t| bit_of(1, t / 2 % 2),
-    );
-}
-
-// The kinds of the format word's bits, in both copies.
-#[tactic(auto, unfolding(crate::specs::Kinds::format_place, crate::specs::Kinds::format_value))]
-fn formats(out: &mut [u8], v: usize)
-    requires { (1 ≤ v) × ((v ≤ last_version) × (side_of v * side_of v ≤ length out.old)) }
-    ensures { out.new ≡ walked (format_place v) format_value 30 out.old }
-{
-    draw(
-        out,
-        30,
-        |t| format_place(v, t % 2, t / 2),
-        |t| (FORMAT + t / 2) as u8,
-    );
-}
-
-// The bits of the version word, in both copies.
-#[tactic(auto, unfolding(crate::specs::Kinds::version_place, crate::specs::Kinds::version_value))]
-fn versions(out: &mut [u8], v: usize, word: u64)
-    requires { (7 ≤ v) × ((v ≤ last_version) × (side_of v * side_of v ≤ length out.old)) }
-    ensures { out.new ≡ walked (version_place v) (version_value word) 36 out.old }
-{
-    draw(
-        out,
-        36,
-        |t| version_place(v, t % 2, t / 2),
-        |t| bit_of(word, t / 2),
-    );
-}
-
 // Whether pair (a, b) of n alignment centres is one of the three at finders.
 #[tactic(auto, unfolding(crate::specs::Kinds::at_finder))]
 fn at_finder(n: usize, a: usize, b: usize) -> bool
@@ -210,70 +139,211 @@ fn at_finder(n: usize, a: usize, b: usize) -> bool
     a * b == 0 && (a + b == 0 || a + b + 1 == n)
 }
 
-// The alignment pattern at pair (a, b) of the listed centres, none at a finder.
-#[tactic(auto, using(crate::proofs::Centres::centres_few, crate::proofs::Centres::centre_inside, crate::proofs::Centres::aligned_skip, crate::proofs::Centres::aligned_square))]
-fn alignment(out: &mut [u8], v: usize, a: usize, b: usize)
-    requires { (1 ≤ v) × ((v ≤ last_version) × ((a < length (centres v)) × ((b < length (centres v)) × (side_of v * side_of v ≤ length out.old)))) }
-    ensures { out.new ≡ aligned_one v (a * length (centres v) + b) out.old }
+// The kind of a data module that codeword bit n fills. Past the last it is one of the surplus: its bit is 0, and the mask flips it as any other.
+#[tactic(auto, using(crate::proofs::Filling::bit_inside, crate::proofs::Filling::bit_past))]
+fn filled(codewords: &[u8], n: usize) -> u8
+    ensures { result ≡ 2 + get_or (byte_bits codewords.now) n 0 }
 {
-    if at_finder(tables::centre_count(v), a, b) {
-        return;
+    match codewords.get(n / 8) {
+        Some(codeword) => DATA + bit_of(u64::from(*codeword), 7 - n % 8),
+        None => DATA,
     }
-    let i = tables::centre(v, a);
-    let j = tables::centre(v, b);
-    let s = tables::side(v);
-    square(out, s, i - 2, j - 2, 5, ALIGNMENT_DARK);
 }
 
-// All alignment patterns.
-#[tactic(auto, using(crate::proofs::Centres::aligned_none, crate::proofs::Centres::aligned_more, crate::proofs::Centres::aligned_row, crate::proofs::Centres::aligned_rows))]
-fn alignments(out: &mut [u8], v: usize)
-    requires { (1 ≤ v) × ((v ≤ last_version) × (side_of v * side_of v ≤ length out.old)) }
-    ensures { out.new ≡ aligned v (length (centres v) * length (centres v)) out.old }
+// A module is met: a data module takes codeword bit n. Answers how many bits are used then.
+#[tactic(auto, unfolding(crate::specs::Kinds::put))]
+fn put(codewords: &[u8], base: &mut [u8], p: usize, n: usize) -> usize
+    requires { (p < length base.old) × (n < 4096) }
+    ensures { filling base.new result ≡ put_one (byte_bits codewords.now) (filling base.old n) p }
 {
-    let n = tables::centre_count(v);
-    for a in 0..n {
-        for b in 0..n {
-            alignment(out, v, a, b);
+    if base[p] != DATA {
+        return n;
+    }
+    base[p] = filled(codewords, n);
+    n + 1
+}
+
+// The right column of pair q.
+#[tactic(auto, unfolding(crate::specs::Modules::pair_column))]
+pub fn pair_column(s: usize, q: usize) -> usize
+    requires { 2 * q + 2 < s }
+    ensures { (result ≡ pair_column s q) × ((1 ≤ result) × (result < s)) }
+{
+    let c = s - 1 - 2 * q;
+    if c <= 6 { c - 1 } else { c }
+}
+
+// The row that pair q meets after t rows: the first pair runs upward, then down, in turn.
+pub fn pair_row(s: usize, q: usize, t: usize) -> usize
+    requires { t < s }
+    ensures { (result ≡ cond (eqb (q % 2) 0) (s - 1 - t) t) × (result < s) }
+{
+    if q % 2 == 0 { s - 1 - t } else { t }
+}
+
+// A version of the table. It fixes the side of the matrix that its methods draw in.
+#[derive(Clone, Copy)]
+struct Version {
+    v: usize,
+    ghost real: { (1 ≤ v) × (v ≤ last_version) },
+}
+
+impl Version {
+    // A square of side w: dark where a bit is set, row by row.
+    #[tactic(auto, unfolding(crate::specs::Kinds::square_place))]
+    fn square(self, out: &mut [u8], top: usize, left: usize, w: usize, dark: u64)
+        requires { (1 ≤ w) × ((w ≤ 8) × ((top + w ≤ side_of self.v) × ((left + w ≤ side_of self.v) × HasRoom out.old self.v))) }
+        ensures { out.new ≡ walked (square_place (side_of self.v) top left w) (bit_of dark) (w * w) out.old }
+    {
+        let s = tables::side(self.v);
+        draw(
+            out,
+            w * w,
+            |t| place(s, top + t / w, left + t % w),
+            |t| bit_of(dark, t),
+        );
+    }
+
+    // Module t of row 6 and column 6 between the finders, row and column in turn.
+    #[tactic(auto, unfolding(crate::specs::Kinds::timing_place))]
+    fn timing_place(self, t: usize) -> usize
+        requires { t < 2 * (side_of self.v - 16) }
+        ensures { (result ≡ timing_place (side_of self.v) t) × (result < side_of self.v * side_of self.v) }
+    {
+        let s = tables::side(self.v);
+        let j = 8 + t / 2;
+        if t % 2 == 0 {
+            place(s, 6, j)
+        } else {
+            place(s, j, 6)
         }
     }
-}
 
-// The three finders with their separators.
-#[tactic(auto, unfolding(crate::specs::Kinds::finders_on))]
-fn finders(out: &mut [u8], s: usize)
-    requires { (21 ≤ s) × ((s ≤ 57) × (s * s ≤ length out.old)) }
-    ensures { out.new ≡ finders_on s out.old }
-{
-    square(out, s, 0, 0, 8, FINDER_TOP_LEFT);
-    square(out, s, 0, s - 8, 8, FINDER_TOP_RIGHT);
-    square(out, s, s - 8, 0, 8, FINDER_BOTTOM_LEFT);
-}
+    // Row 6 and column 6 between the finders, dark at even index.
+    #[tactic(auto, unfolding(crate::specs::Kinds::timing_value))]
+    fn timing(self, out: &mut [u8])
+        requires { HasRoom out.old self.v }
+        ensures { out.new ≡ walked (timing_place (side_of self.v)) timing_value (2 * (side_of self.v - 16)) out.old }
+    {
+        draw(
+            out,
+            2 * (tables::side(self.v) - 16),
+            |t| self.timing_place(t),
+            // a bit of 1, since `u8::from(t / 2 % 2 == 0)` takes 650 instructions more for each symbol
+            |t| bit_of(1, t / 2 % 2),
+        );
+    }
 
-// Timing, alignment patterns, the format word's bits and the module that is always dark.
-#[tactic(auto, using(crate::proofs::Centres::frame_made))]
-fn frame(out: &mut [u8], v: usize)
-    requires { (1 ≤ v) × ((v ≤ last_version) × (side_of v * side_of v ≤ length out.old)) }
-    ensures { out.new ≡ frame_on v out.old }
-{
-    let s = tables::side(v);
-    timing(out, s);
-    alignments(out, v);
-    formats(out, v);
-    let dark = place(s, s - 8, 8);
-    out[dark] = 1;
-}
+    // The kinds of the format word's bits, in both copies.
+    #[tactic(auto, unfolding(crate::specs::Kinds::format_place, crate::specs::Kinds::format_value))]
+    fn formats(self, out: &mut [u8])
+        requires { HasRoom out.old self.v }
+        ensures { out.new ≡ walked (format_place self.v) format_value 30 out.old }
+    {
+        draw(
+            out,
+            30,
+            |t| format_place(self.v, t % 2, t / 2),
+            |t| (FORMAT + t / 2) as u8,
+        );
+    }
 
-// The kinds of a version's modules, pattern after pattern, over a matrix of its length.
-fn patterns(out: &mut [u8], v: usize)
-    requires { (1 ≤ v) × ((v ≤ last_version) × (length out.old ≡ side_of v * side_of v)) }
-    ensures { out.new ≡ kinds_of v }
-{
-    out.fill(DATA);
-    finders(out, tables::side(v));
-    frame(out, v);
-    if v >= FIRST_WITH_WORD {
-        versions(out, v, u64::from(words::version_word(v as u32)));
+    // The bits of the version word, in both copies.
+    #[tactic(auto, unfolding(crate::specs::Kinds::version_place, crate::specs::Kinds::version_value))]
+    fn versions(self, out: &mut [u8], word: u64)
+        requires { (7 ≤ self.v) × HasRoom out.old self.v }
+        ensures { out.new ≡ walked (version_place self.v) (version_value word) 36 out.old }
+    {
+        draw(
+            out,
+            36,
+            |t| version_place(self.v, t % 2, t / 2),
+            |t| bit_of(word, t / 2),
+        );
+    }
+
+    // The alignment pattern at pair (a, b) of the listed centres, none at a finder.
+    #[tactic(auto, using(crate::proofs::Centres::centres_few, crate::proofs::Centres::centre_inside, crate::proofs::Centres::aligned_skip, crate::proofs::Centres::aligned_square))]
+    fn alignment(self, out: &mut [u8], a: usize, b: usize)
+        requires { (a < length (centres self.v)) × ((b < length (centres self.v)) × HasRoom out.old self.v) }
+        ensures { out.new ≡ aligned_one self.v (a * length (centres self.v) + b) out.old }
+    {
+        if at_finder(tables::centre_count(self.v), a, b) {
+            return;
+        }
+        let i = tables::centre(self.v, a);
+        let j = tables::centre(self.v, b);
+        self.square(out, i - 2, j - 2, 5, ALIGNMENT_DARK);
+    }
+
+    // All alignment patterns.
+    #[tactic(auto, using(crate::proofs::Centres::aligned_none, crate::proofs::Centres::aligned_more, crate::proofs::Centres::aligned_row, crate::proofs::Centres::aligned_rows))]
+    fn alignments(self, out: &mut [u8])
+        requires { HasRoom out.old self.v }
+        ensures { out.new ≡ aligned self.v (length (centres self.v) * length (centres self.v)) out.old }
+    {
+        let n = tables::centre_count(self.v);
+        for a in 0..n {
+            for b in 0..n {
+                self.alignment(out, a, b);
+            }
+        }
+    }
+
+    // The three finders with their separators.
+    #[tactic(auto, unfolding(crate::specs::Kinds::finders_on))]
+    fn finders(self, out: &mut [u8])
+        requires { HasRoom out.old self.v }
+        ensures { out.new ≡ finders_on (side_of self.v) out.old }
+    {
+        let s = tables::side(self.v);
+        self.square(out, 0, 0, 8, FINDER_TOP_LEFT);
+        self.square(out, 0, s - 8, 8, FINDER_TOP_RIGHT);
+        self.square(out, s - 8, 0, 8, FINDER_BOTTOM_LEFT);
+    }
+
+    // Timing, alignment patterns, the format word's bits and the module that is always dark.
+    #[tactic(auto, using(crate::proofs::Centres::frame_made))]
+    fn frame(self, out: &mut [u8])
+        requires { HasRoom out.old self.v }
+        ensures { out.new ≡ frame_on self.v out.old }
+    {
+        let s = tables::side(self.v);
+        self.timing(out);
+        self.alignments(out);
+        self.formats(out);
+        let dark = place(s, s - 8, 8);
+        out[dark] = 1;
+    }
+
+    // The kinds of a version's modules, pattern after pattern, over a matrix of its length.
+    fn patterns(self, out: &mut [u8])
+        requires { length out.old ≡ side_of self.v * side_of self.v }
+        ensures { out.new ≡ kinds_of self.v }
+    {
+        out.fill(DATA);
+        self.finders(out);
+        self.frame(out);
+        if self.v >= FIRST_WITH_WORD {
+            self.versions(out, u64::from(words::version_word(self.v as u32)));
+        }
+    }
+
+    // The modules of column pair q, right before left in each row.
+    #[tactic(auto, using(crate::proofs::Filling::put_none))]
+    fn pair(self, codewords: &[u8], base: &mut [u8], q: usize, n: usize) -> usize
+        requires { (q < 2 * self.v + 8) × ((n + 2 * side_of self.v ≤ 4000) × HasRoom base.old self.v) }
+        ensures { filling base.new result ≡ put_all (byte_bits codewords.now) (pair_place (side_of self.v) q) (2 * side_of self.v) (filling base.old n) }
+    {
+        let s = tables::side(self.v);
+        let right = pair_column(s, q);
+        let mut used = n;
+        for t in 0..s {
+            let p = place(s, pair_row(s, q, t), right);
+            used = put(codewords, base, p, used);
+            used = put(codewords, base, p - 1, used);
+        }
+        used
     }
 }
 
@@ -283,7 +353,7 @@ pub fn kinds(v: usize, out: &mut [u8])
     ensures { out.new ≡ kinds_of v ++ drop (side_of v * side_of v) out.old }
 {
     let s = tables::side(v);
-    patterns(&mut out[..s * s], v);
+    Version { v }.patterns(&mut out[..s * s]);
 }
 
 // The colour of a module of kind x in column j: a bit of the word for flipped columns or of the other.
@@ -329,65 +399,6 @@ pub fn finish(base: &[u8], v: usize, level: usize, mask: usize, out: &mut [u8])
     }
 }
 
-// The kind of a data module that codeword bit n fills. Past the last it is one of the surplus: its bit is 0, and the mask flips it as any other.
-#[tactic(auto, using(crate::proofs::Filling::bit_inside, crate::proofs::Filling::bit_past))]
-fn filled(codewords: &[u8], n: usize) -> u8
-    ensures { result ≡ 2 + get_or (byte_bits codewords.now) n 0 }
-{
-    match codewords.get(n / 8) {
-        Some(codeword) => DATA + bit_of(u64::from(*codeword), 7 - n % 8),
-        None => DATA,
-    }
-}
-
-// A module is met: a data module takes codeword bit n. Answers how many bits are used then.
-#[tactic(auto, unfolding(crate::specs::Kinds::put))]
-fn put(codewords: &[u8], base: &mut [u8], p: usize, n: usize) -> usize
-    requires { (p < length base.old) × (n < 4096) }
-    ensures { filling base.new result ≡ put_one (byte_bits codewords.now) (filling base.old n) p }
-{
-    if base[p] != DATA {
-        return n;
-    }
-    base[p] = filled(codewords, n);
-    n + 1
-}
-
-// The right column of pair q.
-#[tactic(auto, unfolding(crate::specs::Modules::pair_column))]
-pub fn pair_column(s: usize, q: usize) -> usize
-    requires { 2 * q + 2 < s }
-    ensures { (result ≡ pair_column s q) × ((1 ≤ result) × (result < s)) }
-{
-    let c = s - 1 - 2 * q;
-    if c <= 6 { c - 1 } else { c }
-}
-
-// The row that pair q meets after t rows: the first pair runs upward, then down, in turn.
-pub fn pair_row(s: usize, q: usize, t: usize) -> usize
-    requires { t < s }
-    ensures { (result ≡ cond (eqb (q % 2) 0) (s - 1 - t) t) × (result < s) }
-{
-    if q % 2 == 0 { s - 1 - t } else { t }
-}
-
-// The modules of column pair q, right before left in each row.
-#[tactic(auto, using(crate::proofs::Filling::put_none))]
-fn pair(codewords: &[u8], base: &mut [u8], v: usize, q: usize, n: usize) -> usize
-    requires { (1 ≤ v) × ((v ≤ last_version) × ((q < 2 * v + 8) × ((n + 2 * side_of v ≤ 4000) × (side_of v * side_of v ≤ length base.old)))) }
-    ensures { filling base.new result ≡ put_all (byte_bits codewords.now) (pair_place (side_of v) q) (2 * side_of v) (filling base.old n) }
-{
-    let s = tables::side(v);
-    let right = pair_column(s, q);
-    let mut used = n;
-    for t in 0..s {
-        let p = place(s, pair_row(s, q, t), right);
-        used = put(codewords, base, p, used);
-        used = put(codewords, base, p - 1, used);
-    }
-    used
-}
-
 // The kinds of a version's modules, the data modules filled by the codewords and the surplus by 0.
 #[tactic(auto, using(crate::proofs::Filling::none_yet))]
 pub fn lay(v: usize, codewords: &[u8], base: &mut [u8])
@@ -396,9 +407,10 @@ pub fn lay(v: usize, codewords: &[u8], base: &mut [u8])
 {
     let s = tables::side(v);
     let matrix = &mut base[..s * s];
-    patterns(matrix, v);
+    let version = Version { v };
+    version.patterns(matrix);
     let mut used = 0;
     for q in 0..2 * v + 8 {
-        used = pair(codewords, matrix, v, q, used);
+        used = version.pair(codewords, matrix, q, used);
     }
 }

@@ -15,7 +15,7 @@ pair-used-requires c =
     let few = few_used _ _ (l.q * (2 * side v)) _ _ _ _ l.invariant in
     let steps = few_steps v (omega arith) (omega arith) c.args.codewords.now l.q (omega arith) in
     let long = kinds_length v (omega arith) (omega arith) [] in
-    (omega arith, (omega arith, (omega arith, (omega (arith, few, steps), omega (arith, long, ap length c.patterns.ensures)))))
+    (omega arith, (omega (arith, few, steps), omega (arith, long, ap length c.patterns.ensures)))
 
 pub loop-q-preserved : goal.loop-q-preserved
 loop-q-preserved c =

@@ -1,9 +1,9 @@
--- `modules::pair` meets its contract: the invariant: 2t modules of the pair are met.
+-- `modules::Version::pair` meets its contract: the invariant: 2t modules of the pair are met.
 use mathlib.Core.Path.{◌≡◌}
 use Prim.Native.Nat.{suc, ◌+◌, ◌*◌}
 use native.Mathlib.Omega.{arith}
 use Rattle.modules.proofs.Filling.{put_more, few_used, first_place, second_place}
-use Rattle.modules.proofs.pair.Goals as goal
+use Rattle.modules.proofs.Version.pair.Goals as goal
 
 pub put-used-requires : goal.put-used-requires
 put-used-requires c =
@@ -17,7 +17,7 @@ put-used-requires-in-loop-t c =
     let l = c.loop-t in
     let in_matrix = rw c.side-s.ensures at c.place-p.ensures.1 in
     let first =
-    first_place c.args.v c.args.q l.t _ _ _ _ c.side-s.ensures (omega arith)
+    first_place c.args.self.v c.args.q l.t _ _ _ _ c.side-s.ensures (omega arith)
     c.pair_row.ensures.0 c.pair_column-right.ensures.0 c.place-p.ensures.0 in
     let one = put_more _ _ _ _ _ (2 * l.t) _ l.invariant first c.put-used.ensures in
     (omega (arith, in_matrix), omega (arith, few_used _ _ (suc (2 * l.t)) _ _ _ _ one, c.side-s.ensures))
@@ -26,10 +26,10 @@ pub loop-t-preserved : goal.loop-t-preserved
 loop-t-preserved c =
     let l = c.loop-t in
     let first =
-    first_place c.args.v c.args.q l.t _ _ _ _ c.side-s.ensures (omega arith)
+    first_place c.args.self.v c.args.q l.t _ _ _ _ c.side-s.ensures (omega arith)
     c.pair_row.ensures.0 c.pair_column-right.ensures.0 c.place-p.ensures.0 in
     let second =
-    second_place c.args.v c.args.q l.t _ _ _ _ c.side-s.ensures (omega arith)
+    second_place c.args.self.v c.args.q l.t _ _ _ _ c.side-s.ensures (omega arith)
     c.pair_row.ensures.0 c.pair_column-right.ensures.0 c.place-p.ensures.0 c.pair_column-right.ensures.1.0 in
     let one = put_more _ _ _ _ _ (2 * l.t) _ l.invariant first c.put-used.ensures in
     let two = put_more _ _ _ _ _ (suc (2 * l.t)) _ one second c.put-used-in-loop-t.ensures in
