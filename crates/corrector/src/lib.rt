@@ -13,10 +13,8 @@ ghost use Rattle.code.specs.Code.{unreadable, differing};
 ghost use Rattle.corrector.specs.Correct.{Asked, Proposed, StandsForNone, Tested, Corrected};
 ghost use Rattle.corrector.specs.Places.{Erased, Found, Noted, Grouped, Mended, Magnitudes};
 
+use code::LANES;
 use std::array;
-
-// The lanes that are worked on together: more than any block has checks, and a whole number of vectors.
-const LANES: usize = 32;
 
 // A row of bytes: a polynomial, the lowest coefficient first, a sequence, or a value for each of some places.
 // A loop puts a call's row into its variable by a name in between, since a result that goes straight into an array has no proof rule.
