@@ -2,14 +2,17 @@
 use mathlib.Core.Path.{◌≡◌, refl, sym, ap, ◌∙◌}
 use mathlib.Core.Bool.{Bool, true, false, cond}
 use mathlib.Core.List.{List, [], ◌∷◌, ◌++◌, append-nil}
-use Prim.Native.Nat.{ℕ, suc, ◌+◌, ◌-◌, ◌*◌, ◌<◌, ◌≤◌, min}
+use Prim.Native.Nat.{ℕ, zero, suc, ◌+◌, ◌-◌, ◌*◌, ◌/◌, ◌<◌, ◌≤◌}
+use native.Mathlib.Nat.{zero-mul, one-mul, suc-mul, add-mul, le_trans, mul-le-mul_right, div-mul-le_self}
 use native.Mathlib.Numerals.{add-one}
 use native.Mathlib.Omega.{arith}
 use lib.Dec.{eqb}
-use lib.ListN.{length, get_or, drop, length-append, drop_of_length-le}
+use lib.ListN.{length, get_or, take, drop, drop_of_length-le}
 use lib.Seq.{drop-cons}
 use borrow.Author.Tests.{ne_eqb, eqb-false}
 use Rattle.std.specs.List.{fold}
+use Rattle.std.specs.Simd.{first_chunks}
+use Rattle.std.proofs.lemmas.List.{take-append-drop, drop-drop, length-take-le, length-drop}
 use Rattle.basics.specs.Bits.{bits, byte_bits}
 use Rattle.stream.specs.BitWriter.{HasRoom}
 use Rattle.stream.specs.declared.BitWriter.{BitWriter}
@@ -43,16 +46,40 @@ module _ (base : ℕ) (widths : List ℕ) where
       let i : suc count + length (d ∷ group) - 1 ≡ count + length (c ∷ d ∷ group) - 1 = omega arith in
       rw more (behind (d ∷ group) rest (base * n + code_of c) (suc count) (omega arith) (omega arith) (λ h. e (omega arith)) ∙ rw i)
 
-  pub group_more : (group rest : List ℕ) → 0 < length group → length group ≡ min (length widths) (length (group ++ rest))
+  -- a group that is full, with those behind it, and a last one
+  pub group_full : (group rest : List ℕ) → 0 < length widths → length group ≡ length widths
       → group_bits base widths (group ++ rest) ≡ bits (get_or widths (length group - 1) 0) (value base group) ++ group_bits base widths rest
-  group_more group rest s e =
+  group_full group rest s e =
       let i : 0 + length group - 1 ≡ length group - 1 = omega arith in
-      behind group rest 0 0 s (omega arith) (λ h. omega (arith, length-append group rest)) ∙ rw i
+      behind group rest 0 0 (omega arith) (omega arith) (λ h. absurd (omega arith)) ∙ rw i
+
+  pub group_last : (group : List ℕ) → 0 < length group → length group ≤ length widths → group_bits base widths group ≡ bits (get_or widths (length group - 1) 0) (value base group) ++ []
+  unfolding bits_behind
+  group_last group s l =
+      let i : 0 + length group - 1 ≡ length group - 1 = omega arith in
+      ap (λ (g : List ℕ). group_bits base widths g) (sym (append-nil group)) ∙ behind group [] 0 0 s (omega arith) (λ h. refl) ∙ rw i
 
   pub group_none : (rest : List ℕ) → length rest ≡ 0 → group_bits base widths rest ≡ []
   unfolding bits_behind
   group_none [] e = refl
   group_none (c ∷ rest) e = absurd (omega arith)
+
+-- the i-th of so many arrays of n elements
+pub array_at : (n count i : ℕ) (l d : List ℕ) → i < count → get_or (first_chunks n count l) i d ≡ take n (drop (i * n) l)
+array_at n zero i l d h = absurd (omega arith)
+array_at n (suc count) zero l d h = rw (zero-mul n) refl
+array_at n (suc count) (suc i) l d h =
+    let e : n + i * n ≡ suc i * n = sym (suc-mul i n ∙ omega arith) in
+    array_at n count i (drop n l) d (omega arith) ∙ ap (take n) (drop-drop (i * n) n l ∙ ap (λ (k : ℕ). drop k l) e)
+
+-- what is left before it is the array and what is left behind it
+pub array_more : (n i : ℕ) (l : List ℕ) → i < length l / n → (drop (i * n) l ≡ take n (drop (i * n) l) ++ drop ((i + 1) * n) l) × (length (take n (drop (i * n) l)) ≡ n)
+array_more n i l h =
+    let e : i * n + n ≡ (i + 1) * n = sym (add-mul i 1 n ∙ omega (arith, one-mul n)) in
+    let whole : (i + 1) * n ≤ length l = le_trans (mul-le-mul_right n (omega arith)) (div-mul-le_self (length l) n) in (
+      sym (take-append-drop n (drop (i * n) l)) ∙ ap (λ (xs : List ℕ). take n (drop (i * n) l) ++ xs) (drop-drop n (i * n) l ∙ ap (λ (k : ℕ). drop k l) e),
+      length-take-le n (drop (i * n) l) (omega (arith, length-drop (i * n) l)),
+    )
 
 -- three digits in 10 bits, two left in 7, one left in 4
 pub numeric_groups : (chars : List ℕ) → group_bits 10 (4 ∷ 7 ∷ 10 ∷ []) chars ≡ numeric_bits chars

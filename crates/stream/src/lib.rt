@@ -19,16 +19,19 @@ pub fn code_of(c: u8) -> u32
     match c {
         b'0'..=b'9' => u32::from(c - b'0'),
         b'A'..=b'Z' => u32::from(c - b'A') + 10,
-        b' ' => 36,
-        b'$' => 37,
-        b'%' => 38,
-        b'*' => 39,
-        b'+' => 40,
-        b'-' => 41,
-        b'.' => 42,
-        b'/' => 43,
-        b':' => 44,
-        _ => 45,
+        // the signs stand in a match of their own, so that digits and letters are found first
+        _ => match c {
+            b' ' => 36,
+            b'$' => 37,
+            b'%' => 38,
+            b'*' => 39,
+            b'+' => 40,
+            b'-' => 41,
+            b'.' => 42,
+            b'/' => 43,
+            b':' => 44,
+            _ => 45,
+        },
     }
 }
 
@@ -172,12 +175,16 @@ impl BitWriter<'_> {
     }
 
     // A body of groups: each has as many characters as there are widths, only the last may have fewer. A group of n characters takes the n-th width.
-    fn put_groups(&mut self, base: u32, widths: &[usize], chars: &[u8])
+    fn put_groups<const N: usize>(&mut self, base: u32, widths: &[usize; N], chars: &[u8])
         requires { Grouping base widths.now × HasRoom self.old (group_bits base widths.now chars.now) }
         ensures { Puts self.old (group_bits base widths.now chars.now) self.new }
     {
-        for group in chars.chunks(widths.len()) {
-            self.put_bits(value_of(base, group), widths[group.len() - 1]);
+        let (groups, rest) = chars.as_chunks::<N>();
+        for group in groups {
+            self.put_bits(value_of(base, group), widths[N - 1]);
+        }
+        if !rest.is_empty() {
+            self.put_bits(value_of(base, rest), widths[rest.len() - 1]);
         }
     }
 
