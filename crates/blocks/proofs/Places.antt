@@ -1,16 +1,13 @@
 -- The closed form of a codeword's place in each of its four cases, and what the table's numbers say of it.
-use mathlib.Core.Path.{◌≡◌, refl, ◌∙◌}
+use mathlib.Core.Path.{◌≡◌, refl}
 use Prim.Native.Nat.{ℕ, ◌+◌, ◌-◌, ◌*◌, ◌<◌, ◌≤◌}
 use native.Mathlib.Nat.{add-zero}
 use native.Mathlib.Omega.{arith}
 use lib.Dec.{leb}
 use borrow.Author.Tests.{lt-ltb, le-ltb, le-leb, lt-leb}
-use Rattle.blocks.specs.declared.Sizes.{Sizes}
 use Rattle.basics.specs.Sums.{one}
-use Rattle.tables.specs.Tables.{total, block_count, short_length, block_data, block_length, Lawful}
-use Rattle.tables.proofs.Rules.{data_most, blocks_most, block_length_most}
+use Rattle.tables.specs.Tables.{total, block_count, data_count, short_length, short_blocks, block_length, Lawful}
 use Rattle.blocks.specs.Blocks.{place_by, sent_place}
-use Rattle.blocks.specs.Sizes.{sizes_of, Modest}
 use Rattle.blocks.proofs.Order.{sent_once}
 
 -- a row starts within few codewords
@@ -45,33 +42,11 @@ module _ (D B short few b p : ℕ) where
 
 -- ---- the table's numbers
 
-short_within : (v level b : ℕ) → short_length v level ≤ block_length v level b
-unfolding block_length block_data
-short_within v level b = omega arith
+-- of the numbers of a version and a level it is the place
+pub same_place : (v level D B short few b p : ℕ) → D ≡ data_count v level → B ≡ block_count v level → short ≡ short_length v level → few ≡ short_blocks v level
+    → place_by D B short few b p ≡ sent_place v level b p
+unfolding sent_place
+same_place v level D B short few b p d n s f = rw (d, n, s, f) refl
 
-modest : (v level : ℕ) → Lawful v level → Modest (sizes_of v level)
-unfolding sizes_of
-modest v level l =
-    record {
-      held = omega (arith, data_most v level l);
-      blocks = blocks_most v level l;
-      short = omega (arith, block_length_most v level 0 l, short_within v level 0);
-    }
-
--- what a call of `place` asks for, and what it gives
-pub record Turn (s : Sizes) (v level b p : ℕ) : Type 0 where
-  pub asked : Modest s × ((b < 8) × (p < 256))
-  pub given : (q : ℕ) → q ≡ place_by s.held s.blocks s.short s.few b p → (q ≡ sent_place v level b p) × (q < total v)
-
-same_place : (s : Sizes) (v level b p : ℕ) → s ≡ sizes_of v level → place_by s.held s.blocks s.short s.few b p ≡ sent_place v level b p
-unfolding sizes_of sent_place
-same_place s v level b p same = rw same refl
-
-pub turn_of : (s : Sizes) (v level b p : ℕ) → Lawful v level → s ≡ sizes_of v level → b < block_count v level → p < block_length v level b → Turn s v level b p
-turn_of s v level b p lawful same hb hp =
-    record {
-      asked = (rw same (modest v level lawful), (omega (arith, blocks_most v level lawful), omega (arith, block_length_most v level b lawful)));
-      given = λ q e.
-          let f : q ≡ sent_place v level b p = e ∙ same_place s v level b p same in
-          (f, rw f ((sent_once v level lawful).inside b p hb hp));
-    }
+pub place_within : (v level b p : ℕ) → Lawful v level → b < block_count v level → p < block_length v level b → sent_place v level b p < total v
+place_within v level b p lawful hb hp = (sent_once v level lawful).inside b p hb hp

@@ -15,7 +15,11 @@ same_data v level lawful words after h e = data_first v level lawful _ (length_f
 
 pub deal_blocks-requires-clause-words_value : goal.deal_blocks-requires-clause-words_value
 deal_blocks-requires-clause-words_value c =
-    c.add_checks.ensures ∙ ap (data_then_checks _ _) (sym (same_data _ _ c.requires.0 _ _ c.requires.1.0 c.add_checks.ensures))
+    let s = c.of-s.result in
+    c.add_checks.ensures ∙ ap (data_then_checks s.v s.level) (sym (same_data s.v s.level s.lawful _ _ (rw c.of-s.ensures.0 c.requires.1.0) c.add_checks.ensures))
 
 pub returns-clause-out_after : goal.returns-clause-out_after
-returns-clause-out_after c = c.deal_blocks.ensures ∙ ap (sent _ _) (same_data _ _ c.requires.0 _ _ c.requires.1.0 c.add_checks.ensures)
+returns-clause-out_after c =
+    let s = c.of-s.result in
+    rw (c.of-s.ensures.0, c.of-s.ensures.1) at
+    (c.deal_blocks.ensures ∙ ap (sent s.v s.level) (same_data s.v s.level s.lawful _ _ (rw c.of-s.ensures.0 c.requires.1.0) c.add_checks.ensures))
