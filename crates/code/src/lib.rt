@@ -99,7 +99,7 @@ fn horner(s: [u8; LANES], p: [u8; LANES], c: u8) -> [u8; LANES]
     array::from_fn(|k| field::mul(s[k], p[k]) ^ c)
 }
 
-// The values of the word at the 32 first powers of 2. `corrector::values` is of a polynomial in lanes, the lowest coefficient first, at any places.
+// The values of the word at the 32 first powers of 2. `corrector::Polynomial::values` is of a polynomial in lanes, the lowest coefficient first, at any places.
 fn values(word: &[u8]) -> [u8; LANES]
     ensures { result ≡ build (λ i. value (pow_n i) word.now) lanes }
 {

@@ -8,11 +8,12 @@ use native.Mathlib.Decide.{dec_lt}
 use native.Mathlib.Omega.{arith}
 use mir.Val.{Fits}
 use mir.Syntax.{w8}
-use lib.Bits.{bit_xor}
+use lib.Bits.{bit_xor, xor_lt}
 use lib.ListN.{length, get_or, replicate, get_or-eq_default}
 use Rattle.std.specs.List.{fold}
 use Rattle.basics.specs.Build.{build}
 use Rattle.basics.proofs.Build.{build_get, build_length}
+use Rattle.field.proofs.Laws.{mul_lt}
 use Rattle.field.proofs.Byte.{Byte, elt, add, elt_add, elt_mul}
 use Rattle.theory.proofs.Sum.{sum}
 use Rattle.theory.proofs.Run.{act, Below, shift, mix}
@@ -147,6 +148,18 @@ lowered_row a i b = record {
       (dec_lt k 32)
       (λ h. rw (build_get _ 32 k h) (b (i + k)))
       (λ h. let e : get_or (lowered a i) k 0 ≡ 0 = get_or-eq_default (lowered a i) 0 (rw (lowered_length a i) (omega arith)) in omega arith);
+}
+
+pub times_bytes : (a b c : List ℕ) → Row a → ((k : ℕ) → get_or c k 0 < 256) → Row (times_plus a b c)
+unfolding times_plus
+times_bytes a b c ra bc = record {
+  long = build_length _ 32;
+  bytes =
+      λ k.
+      by_cases
+      (dec_lt k 32)
+      (λ h. rw (build_get _ 32 k h) (xor_lt 8 _ _ (mul_lt (get_or a k 0) (get_or b k 0) (ra.bytes k)) (bc k)))
+      (λ h. let e : get_or (times_plus a b c) k 0 ≡ 0 = get_or-eq_default (times_plus a b c) 0 (rw build_length (omega arith)) in omega arith);
 }
 
 -- the sum of the lanes of a product with what is left of s from i on is what the polynomial is on that window

@@ -125,7 +125,8 @@ fn answer(
         unreadable,
     } = counts;
     let found = if *word == *sent { "as sent" } else { "another" };
-    println!(rt; "{differing} wrong {unreadable} unreadable, {found}")
+    print!(rt; "{differing} wrong {unreadable}")?;
+    println!(rt; " unreadable, {found}")
 }
 
 // A codeword of d data codewords and n checks, the first of them wrong and those after them unreadable.

@@ -1,16 +1,17 @@
--- Alignment centres: at most three, and each leaves room for its pattern; one pattern more.
-use mathlib.Core.Path.{◌≡◌, ap, ◌∙◌}
+-- Alignment centres: at most three, and each leaves room for its pattern; one pattern more keeps the matrix's length.
+use mathlib.Core.Path.{◌≡◌, refl, ap, ◌∙◌}
 use mathlib.Core.Logic.{⊎_elim}
-use mathlib.Core.Bool.{Bool, true, false}
+use mathlib.Core.Bool.{Bool, true, false, cond}
 use mathlib.Core.List.{List}
-use Prim.Native.Nat.{ℕ, suc, ◌+◌, ◌-◌, ◌*◌, ◌/◌, ◌%◌, ◌≤◌, ◌<◌}
-use native.Mathlib.Nat.{add-zero, zero-mul, mul-add-div_right, mul-add-mod_self_right, div-eq_of_lt, mod-eq_of_lt}
+use Prim.Native.Nat.{ℕ, zero, suc, ◌+◌, ◌-◌, ◌*◌, ◌/◌, ◌%◌, ◌≤◌, ◌<◌}
+use native.Mathlib.Nat.{not-suc-le-zero, add-zero, zero-mul, mul-add-div_right, mul-add-mod_self_right, div-eq_of_lt, mod-eq_of_lt}
 use native.Mathlib.Omega.{arith}
 use lib.Dec.{T, leb, leb→le}
 use lib.ListN.{length, get_or, set}
 use Rattle.basics.specs.Bits.{bit_of}
 use Rattle.basics.specs.Walk.{walked}
-use Rattle.basics.proofs.Test.{all, at, both, either, either_cases}
+use Rattle.basics.proofs.Walk.{walked_length}
+use Rattle.basics.proofs.Test.{all, at, grid, both, either, either_cases}
 use Rattle.tables.specs.Tables.{side, centres}
 use Rattle.modules.specs.Kinds.{square_place, timing_place, timing_value, format_place, format_value, alignment_dark, at_finder, aligned_one, aligned, frame_on}
 use Rattle.modules.proofs.Open.{every}
@@ -44,6 +45,28 @@ module _ (v : ℕ) (least : 1 ≤ v) (most : v ≤ 10) where
       past : length (centres v) ≤ k → ⊥
       past l = omega arith
 
+pub some : (n t : ℕ) → t < n * n → 1 ≤ n
+some zero t h = absurd (not-suc-le-zero h)
+some (suc n) t h = omega arith
+
+either_length : (t : Bool) (a b : List ℕ) → length b ≡ length a → length (cond t a b) ≡ length a
+either_length true a b e = refl
+either_length false a b e = e
+
+pub aligned_one_length : (v t : ℕ) (out : List ℕ) → length (aligned_one v t out) ≡ length out
+unfolding aligned_one
+aligned_one_length v t out =
+    let n = length (centres v) in
+    let i = get_or (centres v) (t / n) 0 in
+    let j = get_or (centres v) (t % n) 0 in
+    either_length (at_finder n (t / n) (t % n)) out (walked (square_place (side v) (i - 2) (j - 2) 5) (bit_of alignment_dark) 25 out)
+    (walked_length (square_place (side v) (i - 2) (j - 2) 5) (bit_of alignment_dark) out 25)
+
+pub aligned_length : (v t : ℕ) (out : List ℕ) → length (aligned v t out) ≡ length out
+unfolding aligned
+aligned_length v zero out = refl
+aligned_length v (suc t) out = aligned_one_length v t (aligned v t out) ∙ aligned_length v t out
+
 pub aligned_none : (v n : ℕ) (out : List ℕ) → out ≡ aligned v (0 * n) out
 unfolding aligned
 aligned_none v n out = rw zero-mul
@@ -62,6 +85,9 @@ pub aligned_rows : (v a n b : ℕ) (out₀ out : List ℕ) → out ≡ aligned v
 aligned_rows v a n b out₀ out e h =
     let count : a * n + b ≡ (a + 1) * n = omega arith in
     rw count at e
+
+pub drawn_length : (v t : ℕ) (out₀ out : List ℕ) → out ≡ aligned v t out₀ → length out ≡ length out₀
+drawn_length v t out₀ out e = ap length e ∙ aligned_length v t out₀
 
 -- ---- one pattern, from the numbers as the code has them
 
@@ -83,6 +109,12 @@ module _ (v a b n : ℕ) (e : n ≡ length (centres v)) (h : b < length (centres
   unfolding aligned_one
   aligned_square i j s out out' f hi hj hs q =
       q ∙ rw (hs, hi, hj, row_of (length (centres v)) a b h, column_of (length (centres v)) a b h, rw e at f)
+
+pub small_product : (a b : ℕ) → a < 3 → b < 3 → a * b ≤ 4
+small_product a b ha hb = leb→le _ _ (grid 3 3 (λ a b. leb (a * b) 4) tt a b ha hb)
+
+pub squared : (n : ℕ) → n ≤ 3 → n * n ≤ 9
+squared n h = leb→le _ _ (at 4 (λ n. leb (n * n) 9) tt n (omega arith))
 
 -- timing, alignment, format bits and one store, from the numbers and the matrices as the code has them
 pub frame_made : (v s p : ℕ) (out out₁ out₂ out₃ : List ℕ) → s ≡ side v → out₁ ≡ walked (timing_place s) timing_value (2 * (s - 16)) out

@@ -1,4 +1,4 @@
--- The walk that fills: `put_all` in two stretches, its count, and what it leaves over a version's kinds: `filled_all`.
+-- The walk that fills: `put_all` in two stretches, its length and count, and what it leaves over a version's kinds: `filled_all`.
 use mathlib.Core.Path.{◌≡◌, refl, sym, ap, ◌∙◌}
 use mathlib.Core.Logic.{◌⊎◌, inl, inr, ⊎_elim}
 use mathlib.Core.Bool.{Bool, true, false, cond}
@@ -40,6 +40,17 @@ module _ (bs : List ℕ) where
   put_join place a zero f = rw add-zero
   put_join place a (suc b) f = rw (add-suc, put_join place a b f)
 
+  put_if_length : (t : Bool) (m : List ℕ) (n p : ℕ) → length (put_if t bs m n p).matrix ≡ length m
+  put_if_length true m n p = length-set m p (2 + get_or bs n 0)
+  put_if_length false m n p = refl
+
+  pub put_all_length : (place : ℕ → ℕ) (k : ℕ) (f : Filling) → length (put_all bs place k f).matrix ≡ length f.matrix
+  unfolding put put_all
+  put_all_length place zero f = refl
+  put_all_length place (suc k) f =
+      let g = put_all bs place k f in
+      put_if_length (eqb (get_or g.matrix (place k) 0) 2) g.matrix g.used (place k) ∙ put_all_length place k f
+
   put_if_used : (t : Bool) (m : List ℕ) (n p : ℕ) → (put_if t bs m n p).used ≤ suc n
   put_if_used true m n p = omega arith
   put_if_used false m n p = omega arith
@@ -52,6 +63,9 @@ module _ (bs : List ℕ) where
       omega (arith, put_if_used (eqb (get_or g.matrix (place k) 0) 2) g.matrix g.used (place k), put_all_used place k f)
 
   -- the same of a state that is known to be so filled
+  pub kept_length : (place : ℕ → ℕ) (k : ℕ) (m m₀ : List ℕ) (n n₀ : ℕ) → filling m n ≡ put_all bs place k (filling m₀ n₀) → length m ≡ length m₀
+  kept_length place k m m₀ n n₀ e = ap (λ (f : Filling). length f.matrix) e ∙ put_all_length place k (filling m₀ n₀)
+
   pub few_used : (place : ℕ → ℕ) (k : ℕ) (m m₀ : List ℕ) (n n₀ : ℕ) → filling m n ≡ put_all bs place k (filling m₀ n₀) → n ≤ n₀ + k
   few_used place k m m₀ n n₀ e = rw (ap (λ (f : Filling). f.used) e) (put_all_used place k (filling m₀ n₀))
 

@@ -1,7 +1,7 @@
 -- Places that lie in the matrix, and the words' places from the side as the code has it.
 use mathlib.Core.Path.{◌≡◌, sym, ◌∙◌}
-use Prim.Native.Nat.{ℕ, suc, ◌+◌, ◌*◌, ◌≤◌, ◌<◌}
-use native.Mathlib.Nat.{le_trans, mul-le-mul_right, suc-mul}
+use Prim.Native.Nat.{ℕ, suc, ◌+◌, ◌*◌, ◌/◌, ◌≤◌, ◌<◌}
+use native.Mathlib.Nat.{le_trans, mul-le-mul_right, suc-mul, div-lt_iff_lt-mul}
 use native.Mathlib.Omega.{arith}
 use lib.ListN.{get_or}
 use Rattle.basics.proofs.Lists.{get_d_map_up_to}
@@ -11,6 +11,12 @@ use Rattle.modules.specs.Modules.{format_one, format_two, format_places, version
 
 pub square_small : (s : ℕ) → s ≤ 57 → s * s ≤ 3249
 square_small s h = le_trans (mul-le-mul_right s h) (omega arith)
+
+pub row_lt : (w t : ℕ) → 1 ≤ w → t < w * w → t / w < w
+row_lt w t h l = (div-lt_iff_lt-mul {k = w} {x = t} {y = w} h).1 l
+
+pub small_square : (w : ℕ) → w ≤ 8 → w * w ≤ 64
+small_square w h = le_trans (mul-le-mul_right w h) (omega arith)
 
 -- ---- the words' places, from the side as the code has it
 

@@ -95,7 +95,8 @@ fn try_symbol(
     let mut modules = [0u8; 3249];
     unpack(bits, &mut modules);
     let list = [mode, payload.len() as u16];
-    print!(rt; "{version}-{}: ", level_name(level))?;
+    print!(rt; "{version}")?;
+    print!(rt; "-{}: ", level_name(level))?;
     draw_alike(rt, payload, &list, level, version, mask, &modules[..size])?;
     read_back(rt, &modules[..size], payload)
 }

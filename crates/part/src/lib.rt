@@ -16,25 +16,27 @@ pub struct Span {
 const NOWHERE: Span = Span { start: 0, len: 0 };
 
 // Where the k-th segment stands in a payload of n bytes, if the list is even and has such a segment, and the span does not run past the
-// payload.
+// payload. The counts in front of it alone are looked at, and none where the list has no such segment.
 fn find_span(list: &[u16], n: usize, k: usize) -> Option<Span>
     ensures { unwrap_or result nowhere ≡ span_of list.now n k }
 {
     let (segments, []) = list.as_chunks::<2>() else {
         return None;
     };
+    let [_, last] = segments.get(k)?;
     let mut start: usize = 0;
-    for (j, [_, count]) in segments.iter().enumerate() {
+    for [_, count] in &segments[..k] {
         let len = usize::from(*count);
         if n - start < len {
             return None;
         }
-        if j == k {
-            return Some(Span { start, len });
-        }
         start += len;
     }
-    None
+    let len = usize::from(*last);
+    if n - start < len {
+        return None;
+    }
+    Some(Span { start, len })
 }
 
 // Where the k-th segment stands in a payload of n bytes; the empty span at the start where the list is odd or has no such segment, or the

@@ -8,7 +8,7 @@ use native.Mathlib.Nat.{zero-add, add-zero, mul-one, zero-mul, suc-mul, mul-le-m
 use native.Mathlib.Decide.{dec_le}
 use native.Mathlib.Numerals.{add-one}
 use native.Mathlib.Omega.{arith}
-use borrow.Author.Tests.{le-leb, lt-leb}
+use borrow.Author.Tests.{eq-eqb, le-leb, lt-leb}
 use lib.Dec.{leb, eqb}
 use lib.ListN.{get_or}
 use Rattle.basics.specs.Sums.{sum, one, tally}
@@ -43,6 +43,11 @@ and_true true = refl
 and_true false = refl
 
 module _ (m : List ℕ) (stride : ℕ) where
+  -- one module, and one more
+  pub alike_one : (at : ℕ) → alike m at stride 1 ≡ true
+  unfolding alike each line
+  alike_one at = rw (eq-eqb (get_or m at 0) (get_or m at 0) refl)
+
   each_more : (test : ℕ → Bool) (at k : ℕ) → each test (line m at stride (suc k)) ≡ each test (line m at stride k) && test (get_or m (at + k * stride) 0)
   unfolding each line
   each_more test at zero =
@@ -56,7 +61,6 @@ module _ (m : List ℕ) (stride : ℕ) where
       and_assoc true b c = refl
       and_assoc false b c = refl
 
-  -- one module more
   pub alike_more : (at k : ℕ) → alike m at stride (k + 1) ≡ alike m at stride k && eqb (get_or m (at + k * stride) 0) (get_or m at 0)
   unfolding alike
   alike_more at k = rw add-one (each_more (λ x. eqb x (get_or m at 0)) at k)

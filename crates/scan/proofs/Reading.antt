@@ -9,7 +9,8 @@ use Prim.Native.Nat.{ℕ, zero, suc, ◌+◌, ◌-◌, ◌*◌, ◌/◌, ◌%◌
 use native.Mathlib.Nat.{mul-add-div_right, mul-add-mod_self_right, div-eq_of_lt, mod-eq_of_lt, mul-le-mul_right, add-zero, le_of_lt, add-mul, mul_assoc, mul_left_comm}
 use native.Mathlib.Numerals.{add-one}
 use native.Mathlib.Omega.{arith}
-use lib.Dec.{eqb}
+use lib.Dec.{eqb, leb, leb→le}
+use Rattle.basics.proofs.Test.{at}
 use borrow.Author.Tests.{eq-eqb, ne_eqb}
 use lib.ListN.{length, get_or, set, take}
 use lib.Seq.{take-suc, take-suc-set}
@@ -18,7 +19,7 @@ use Rattle.basics.specs.Lists.{up_to, keep, any, AtMost}
 use Rattle.basics.specs.Sums.{one}
 use Rattle.basics.proofs.Bits.{number_after_append}
 use Rattle.basics.proofs.Lists.{map_append, map_up_to_suc}
-use Rattle.tables.specs.Tables.{side}
+use Rattle.tables.specs.Tables.{side, last_version, most_modules}
 use Rattle.modules.specs.Modules.{walk, pair_column, is_data}
 use Rattle.std.proofs.Common.{Option, Some, None}
 use Rattle.std.specs.Option.{unwrap_or, is_some}
@@ -89,6 +90,9 @@ pub inside : (s i j : ℕ) → i < s → j < s → i * s + j < s * s
 inside s i j hi hj =
     let m : suc i * s ≤ s * s = mul-le-mul_right s hi in
     omega (arith, m)
+
+pub side_most : (v : ℕ) → v ≤ last_version → side v * side v ≤ most_modules
+side_most v h = leb→le _ _ (at 11 (λ v. leb (side v * side v) most_modules) tt v (omega arith))
 
 -- step r of column pair q
 pub walk_step : (s q r : ℕ) → r < 2 * s

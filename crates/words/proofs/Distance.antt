@@ -11,7 +11,7 @@ use lib.Arith.{lt-one}
 use lib.Dec.{T, leb, leb→le, eqb, eqb→eq}
 use lib.Pow.{shr_lt}
 use lib.Bits.{bit_and, bit_xor, and_shr, and_mod, and_le_r}
-use lib.Count.{ones, ones_in, ones_step}
+use lib.Count.{ones, ones_in, ones_step, ones-le}
 use Rattle.basics.proofs.Test.{all_2, at_2, at_3, either, either_cases}
 use Rattle.basics.proofs.Xor.{digit, xor_half, xor_low, xor_assoc, xor_left_comm, xor_cancel}
 use Rattle.words.specs.Words.{Near}
@@ -23,8 +23,11 @@ ones_in_lem zero n h = rw (lt-one h)
 ones_in_lem (suc k) n h = ones_step n ∙ ap (λ (x : ℕ). n % 2 + x) (ones_in_lem k (n / 2) (shr_lt k 1 (rw add-one h)))
 
 -- so for what is left of a number under a mask of k digits
-ones_under : (k a m : ℕ) → m < 2 ^ k → ones (bit_and a m) ≡ ones_in k (bit_and a m)
+pub ones_under : (k a m : ℕ) → m < 2 ^ k → ones (bit_and a m) ≡ ones_in k (bit_and a m)
 ones_under k a m h = ones_in_lem k (bit_and a m) (lt_of_le_of_lt (and_le_r a m) h)
+
+pub ones_under_le : (k a m : ℕ) → m < 2 ^ k → ones (bit_and a m) ≤ k
+ones_under_le k a m h = ones-le k (bit_and a m) (lt_of_le_of_lt (and_le_r a m) h)
 
 -- where two words differ, one of them differs from a third, or the place is not in the mask
 digits : (x y m : ℕ) → x < 2 → y < 2 → m < 2 → bit_xor x y + m ≤ bit_and x m + bit_and y m + 1
